@@ -5,3 +5,5 @@ pub mod Tests
 pub mod Floor
 pub mod Bezout
 pub mod Count
+pub mod Bound
+pub mod Machine
