@@ -7,3 +7,4 @@ pub mod Bezout
 pub mod Count
 pub mod Bound
 pub mod Machine
+pub mod Uses

@@ -10,7 +10,7 @@ use mathlib.Core.Path.{_≡_}
 use mathlib.Core.Logic.{_↔_, _⊎_, inl, inr}
 use mathlib.Core.Bool.{Bool, true, false, not}
 use mathlib.Core.List.{[], _∷_}
-use Prim.Native.Nat.{_*_}
+use Prim.Native.Nat.{suc, _*_}
 use native.Mathlib.Omega.{arith}
 use lib.IntN.{ℤ, pos, negsuc, negℤ, _+ℤ_, _-ℤ_, _*ℤ_}
 use lib.Signed.{leZ-yes, ltZ, ltZ-yes, ltZ-no, clashℤ}
@@ -85,6 +85,11 @@ pub mul-nn : {x y : ℤ} → pos 0 ≼ x → pos 0 ≼ y → pos 0 ≼ x *ℤ y
 mul-nn {x = pos a} {y = pos b} h k = leZ-yes (le→leb 0 (a * b) (omega arith))
 mul-nn {x = pos a} {y = negsuc b} h k = absurd (k .le)
 mul-nn {x = negsuc a} h k = absurd (h .le)
+
+-- nor is a square
+pub square-nn : (x : ℤ) → pos 0 ≼ x *ℤ x
+square-nn (pos a) = leZ-yes (le→leb 0 (a * a) (omega arith))
+square-nn (negsuc a) = leZ-yes (le→leb 0 (suc a * suc a) (omega arith))
 
 pub add-nn : {x y : ℤ} → pos 0 ≼ x → pos 0 ≼ y → pos 0 ≼ x +ℤ y
 add-nn {x} {y} h k = h ⊢ k ⊢ here (x ∷ y ∷ []) (λ ρ a b. simp (reify, ρ, a, b) (omega arith))
