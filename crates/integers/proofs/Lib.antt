@@ -1,4 +1,5 @@
 pub mod Parts
+pub mod Poly
 pub mod Ring
 pub mod Order
 pub mod Tests

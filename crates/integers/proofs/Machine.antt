@@ -12,7 +12,7 @@
 -- A branch's test gives its fact by `lt-yes`, `lt-no`, `le-yes`, `le-no`, `eq-yes`, from what the logic says of the way taken.
 -- Where the bounds do not show that a result fits, show it of the integers, and use `any-fits` and `any` with the operation's `-at`, which says what the machine computes.
 use mathlib.Core.Path.{_≡_, refl, sym, ap, ap₂, _∙_, subst}
-use mathlib.Core.Bool.{Bool, true, false}
+use mathlib.Core.Bool.{true, false}
 use Prim.Native.Nat.{ℕ, zero, suc, _+_, _*_, _/_, _^_, _≤_, _<_}
 use native.Mathlib.Nat.{le-refl, div-le-self, lt-of-le-of-lt}
 use native.Mathlib.Omega.{arith}
