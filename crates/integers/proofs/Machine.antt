@@ -3,12 +3,13 @@
 -- How to use it. `Is w z m n` says that the bits m, at the width w, are those of the integer z, and that |z| ≤ n. A proof makes one for each operand:
 --   * `known h tt`, of a parameter, a field or an element with a bound h : Abs z n in the contract; `par f`, of one of which its type alone is known;
 --     `num z tt`, of a literal; `of-nat`, of an unsigned number; `var`, of a loop's variable; `got` and `call`, of what a call answered;
--- and then follows the expression, one rule for each operation: `add`, `sub`, `mul`, `quot`, `rem`, `shr`, `cast`. The same rule with `-fits` answers the need
--- that the operation leaves, that it does not overflow. The last argument of either is `tt` where the bounds are numerals. So for `v * x - u` with bounds on all three
---     mul-result c = mul-fits V X tt
---     sub-result c = sub-fits (mul V X tt) U tt
---     returns c = sub (mul V X tt) U tt .reads
--- with V, X and U the `known` of each: `.reads` is the contract, that the result reads as v x - u.
+-- and then follows the expression, one rule for each operation: `add`, `sub`, `mul`, `quot`, `rem`, `shr`, `cast`, and `floor` for a call of `floor_div`. The rule's name with
+-- `-fits` answers the need that the operation leaves, that it does not overflow. The last argument of either is `tt` where the bounds are numerals; that of `quot` and
+-- `quot-fits` is that the divisor is positive. So for `v * x - u` with bounds on all three
+--     mul-result c = mul-fits p q tt
+--     sub-result c = sub-fits (mul p q tt) r tt
+--     returns c = sub (mul p q tt) r tt .reads
+-- with p, q and r the `known` of v, x and u: `.reads` is the contract, that the result reads as v x - u.
 -- A branch's test gives its fact by `lt-yes`, `lt-no`, `le-yes`, `le-no`, `eq-yes`, from what the logic says of the way taken.
 -- Where the bounds do not show that a result fits, show it of the integers, and use `any-fits` and `any` with the operation's `-at`, which says what the machine computes.
 use mathlib.Core.Path.{_≡_, refl, sym, ap, ap₂, _∙_, subst}
@@ -23,10 +24,11 @@ use mir.Syntax.{Width}
 use mir.Val.{Fits, SFits, bits, hbits, toZ, ofZ}
 use mir.Facts.{toZ-ofZ, ofZ-toZ, sfits-toZ, sfits-lit}
 use Rattle.integers.specs.Orders.{_≼_, _≺_}
+use Rattle.integers.specs.Floor.{floorDiv}
 use Rattle.integers.specs.Bound.{Abs}
 use Rattle.integers.proofs.Tests.{le-true, le-false, lt-true, lt-false}
 use Rattle.integers.proofs.Floor.{flip-pos, flip-negsuc}
-use Rattle.integers.proofs.Bound.{abs-le, abs-pos, abs-add, abs-sub, abs-mul, abs-quot, abs-rem, abs-shr, abs-fits, fits-abs}
+use Rattle.integers.proofs.Bound.{abs-le, abs-pos, abs-add, abs-sub, abs-mul, abs-quot, abs-rem, abs-shr, abs-floor, abs-fits, fits-abs}
 
 -- the bits m, at the width w, are those of z, and |z| ≤ n
 pub record Is (w : Width) (z : ℤ) (m : ℕ) (n : ℕ) : Type 0 where
@@ -166,6 +168,16 @@ module _ {w : Width} {x : ℤ} {m a : ℕ} (p : Is w x m a) where
   -- down by as many bits as make the divisor d, a power of two
   pub shr : (d : ℕ) → Is w (shrZ x d) (ofZ w (shrZ (toZ w m) d)) a
   shr d = rebound (abs-shr (p .abs) d) (any (ap (λ (z : ℤ). shrZ z d) (p .reads)) (record { sfits = lt-of-le-of-lt (mag-shr x d) (p .fits .sfits) }))
+
+-- what `floor_div` answers
+mag-floor : (x y : ℤ) → mag (floorDiv x y) ≤ mag x
+mag-floor x (pos zero) = omega arith
+mag-floor x (pos (suc d)) = mag-shr x (suc d)
+mag-floor x (negsuc d) = omega arith
+
+pub floor : {w : Width} {x y r : ℤ} {m k a b : ℕ} → Is w x m a → Is w y k b → r ≡ floorDiv (toZ w m) (toZ w k) → Is w (floorDiv x y) (ofZ w r) a
+floor {w} {x} {y} p q e =
+    rebound (abs-floor (p .abs) y) (any (e ∙ ap₂ floorDiv (p .reads) (q .reads)) (record { sfits = lt-of-le-of-lt (mag-floor x y) (p .fits .sfits) }))
 
 -- -1 - z turns every bit of z over, so it fits where z does
 pub flip-fits : {w : Width} {z : ℤ} → SFits w z → SFits w (negsuc 0 -ℤ z)
