@@ -5,3 +5,5 @@ pub mod Chain
 pub mod Invariant
 pub mod Pieces
 pub mod Cuts
+pub mod Rounds
+pub mod Progress
