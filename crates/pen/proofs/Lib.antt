@@ -7,3 +7,8 @@ pub mod Pieces
 pub mod Cuts
 pub mod Rounds
 pub mod Progress
+pub mod Sizes
+pub mod Quarters
+pub mod Ranges
+pub mod Convex
+pub mod Theorems

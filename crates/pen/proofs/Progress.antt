@@ -47,7 +47,7 @@ abbrev at : State → Corner
 at t = record { x = t .x; y = t .y }
 
 module _ (σ : Setting) where
-  corners-over : (f : ℕ) (t : State) → t .after ≡ [] → corners σ f t ≡ []
+  pub corners-over : (f : ℕ) (t : State) → t .after ≡ [] → corners σ f t ≡ []
   unfolding corners
   corners-over zero t e = refl
   corners-over (suc f) t e = rw e

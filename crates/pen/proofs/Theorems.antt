@@ -1,0 +1,32 @@
+-- The claims of specs/Theorems.antt, each under its name there.
+use mathlib.Core.Path.{_≡_}
+use native.Mathlib.Nat.{le-antisymm}
+use Rattle.pen.specs.Theorems.{NearRootHolds, NearRootUnique, StepsFall, AtMost33, EndsWithQuarter, NothingBelowZero, QuarterFew, QuarterBox}
+use Rattle.pen.proofs.NearRoot.{nearRoot-ok, nearRoot-one}
+use Rattle.pen.proofs.Progress.{falls-put, falls-on, ends-with}
+use Rattle.pen.proofs.Sizes.{at-most, ready}
+use Rattle.pen.proofs.Ranges.{few-corners, in-box}
+
+pub near-root-holds : NearRootHolds
+near-root-holds = nearRoot-ok
+
+pub near-root-unique : NearRootUnique
+near-root-unique σ τ u v m n a b = le-antisymm (nearRoot-one σ τ u v m n a b) (nearRoot-one σ τ u v n m b a)
+
+pub steps-fall : StepsFall
+steps-fall σ τ out t m = (λ r e. falls-put σ τ m e, λ r e. falls-on σ τ m e)
+
+pub at-most-33 : AtMost33
+at-most-33 σ τ out t m = at-most σ τ m
+
+pub ends-with-quarter : EndsWithQuarter
+ends-with-quarter σ τ out t m e = ends-with σ τ m e
+
+pub nothing-below-zero : NothingBelowZero
+nothing-below-zero σ τ out t m R rest e = ready σ τ m e
+
+pub quarter-few : QuarterFew
+quarter-few = few-corners
+
+pub quarter-box : QuarterBox
+quarter-box = in-box
