@@ -11,4 +11,10 @@ pub mod Sizes
 pub mod Quarters
 pub mod Ranges
 pub mod Convex
+pub mod Once
+pub mod Images
+pub mod Fits
+pub mod Around
+pub mod Whole
+pub mod PenLaw
 pub mod Theorems

@@ -1,11 +1,12 @@
 -- The claims of specs/Theorems.antt, each under its name there.
 use mathlib.Core.Path.{_≡_}
 use native.Mathlib.Nat.{le-antisymm}
-use Rattle.pen.specs.Theorems.{NearRootHolds, NearRootUnique, StepsFall, AtMost33, EndsWithQuarter, NothingBelowZero, QuarterFew, QuarterBox}
+use Rattle.pen.specs.Theorems.{NearRootHolds, NearRootUnique, StepsFall, AtMost33, EndsWithQuarter, NothingBelowZero, QuarterFew, QuarterBox, PenFew, PenIsPen}
 use Rattle.pen.proofs.NearRoot.{nearRoot-ok, nearRoot-one}
 use Rattle.pen.proofs.Progress.{falls-put, falls-on, ends-with}
 use Rattle.pen.proofs.Sizes.{at-most, ready}
 use Rattle.pen.proofs.Ranges.{few-corners, in-box}
+use Rattle.pen.proofs.PenLaw.{is-pen, few-of-pen}
 
 pub near-root-holds : NearRootHolds
 near-root-holds = nearRoot-ok
@@ -30,3 +31,9 @@ quarter-few = few-corners
 
 pub quarter-box : QuarterBox
 quarter-box = in-box
+
+pub pen-few : PenFew
+pen-few = few-of-pen
+
+pub pen-is-pen : PenIsPen
+pen-is-pen = is-pen
