@@ -3,14 +3,14 @@ use Prim.Native.Nat.{ℕ, zero, suc, _+_, _*_, _-_, _≤_, _<_, min}
 use mathlib.Core.Path.{_≡_, refl, sym, subst}
 use mathlib.Core.Bool.{Bool, true, false, not}
 use mathlib.Core.List.{List, [], _∷_}
-use native.Mathlib.Nat.{mul-le-mul-right, le-of-lt}
+use native.Mathlib.Nat.{le-of-lt}
 use native.Mathlib.Omega.{arith}
 use lib.Dec.{T, T-not, eqb, eqb→eq, eqb-refl}
 use Rattle.pen.specs.declared.Setting.{Setting}
 use Rattle.pen.specs.declared.Edge.{Edge}
 use Rattle.pen.specs.Cutting.{State, size, retained, cutBy, cut}
 use Rattle.pen.specs.Moment.{sum, total}
-use Rattle.pen.proofs.Invariant.{After, Before, Going, flatter, turns, ups, lines, room}
+use Rattle.pen.proofs.Invariant.{After, Before, Going, flatter, turns, ups, lines, room, span}
 use Rattle.pen.proofs.Pieces.{shorten, shortened, replaced, gone, cut-on, between, flat}
 use Rattle.pen.proofs.Slope.{slide-back}
 
@@ -31,15 +31,14 @@ module _ {D k pu pv a b x y : ℕ} (σ : Setting) (L R : Edge) (rest : List Edge
     (e : L .l1 ≡ k) (base : k ≤ D) (bottom : 1 ≤ k → L .u ≡ 1) (p : 1 ≤ pu) (pos : 1 ≤ s) (hl : s ≤ L .l2) (hr : s ≤ R .l1) (near : L .u * R .v ≤ 1 + L .v * R .u)
     (r : Before pu pv a b x y L) (cl : L .c ≡ L .v * x + L .u * y) (q : After D (L .u) (L .v) x y (R ∷ rest)) where
   -- step 1 lets no determinant above 1 through, and the edges turn
-  pub one : L .u * R .v ≡ suc (L .v * R .u)
+  one : L .u * R .v ≡ suc (L .v * R .u)
   one = omega (arith, turns (r .right) q)
 
   lies-on : L .c + R .c - s ≡ (L .v + R .v) * (x + s * R .u) + (L .u + R .u) * (y - s * R .v)
   lies-on = cut-on (L .u) (L .v) (R .u) (R .v) s x y (L .c) (R .c) one (room s hr q) cl (lines q)
 
-  -- L is long enough
-  pub reach : s * L .u ≤ x
-  reach = omega (arith, mul-le-mul-right (L .u) hl, r .across)
+  reach : s * L .u ≤ x
+  reach = span L s hl r
 
   cutting : (bl br : Bool) → (T bl → s ≡ size L) → (T (not bl) → s ≡ size L → ⊥) → (T br → s ≡ size R) → (T (not br) → s ≡ size R → ⊥) →
       Closer D k pu pv a b (size L + (size R + sum rest)) (cutBy bl br σ x y s L R rest)

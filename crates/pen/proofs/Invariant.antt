@@ -63,6 +63,11 @@ flatter {pu = pu} {pv = pv} qu qv h k (inner y′ {e = e} r s) = inner y′ (rec
   turn = slope-trans qu qv pu pv (e .u) (e .v) h k (r .turn);
 }) s
 
+-- ---- of the edge before the corner
+-- from its retained point on it stays in the box
+pub span : {pu pv a b x y : ℕ} (L : Edge) (s : ℕ) → s ≤ L .l2 → Before pu pv a b x y L → s * L .u ≤ x
+span L s h r = omega (arith, mul-le-mul-right (L .u) h, r .across)
+
 -- ---- of the first edge after the corner
 pub turns : {D pu pv x y : ℕ} {R : Edge} {rest : List Edge} → 1 ≤ pu → After D pu pv x y (R ∷ rest) → pv * R .u < pu * R .v
 turns {pu = pu} {pv = pv} h (upright r) = rw (r .level, r .up) (omega (arith, mul-zero pv, mul-one pu))

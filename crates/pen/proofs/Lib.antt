@@ -1,5 +1,6 @@
 pub mod Limits
 pub mod Slope
+pub mod Naturals
 pub mod NearRoot
 pub mod Chain
 pub mod Invariant
@@ -17,4 +18,6 @@ pub mod Fits
 pub mod Around
 pub mod Whole
 pub mod PenLaw
+pub mod Nearest
+pub mod Rules
 pub mod Theorems

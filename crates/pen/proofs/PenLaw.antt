@@ -6,8 +6,6 @@ use mathlib.Core.List.{List, [], _∷_, map}
 use lib.ListN.{length, length-map}
 use native.Mathlib.Omega.{arith}
 use lib.IntN.{ℤ, pos, negℤ, _+ℤ_, _-ℤ_, _*ℤ_}
-use lib.Signed.{leZ-yes, ltZ-yes}
-use lib.Dec.{le→leb, lt→ltb}
 use Rattle.integers.specs.Orders.{_≼_, _≺_}
 use Rattle.integers.specs.Count.{_∈_}
 use Rattle.integers.proofs.Ring.{ring, reify, _⊢_}
@@ -17,6 +15,7 @@ use Rattle.pen.specs.Cutting.{Corner, quarter}
 use Rattle.pen.specs.Polygon.{Pt, pt, upward, upAndBack, around, onceEach, closed, whole, pen}
 use Rattle.pen.specs.Laws.{dot, edge, PenLaws}
 use Rattle.pen.proofs.Limits.{box-wide, box-high}
+use Rattle.pen.proofs.Naturals.{le-pos, lt-pos, diff}
 use Rattle.pen.proofs.Chain.{Chain, stop, link}
 use Rattle.pen.proofs.Ranges.{x-range, y-range, few-corners, some, split-chain, lowest}
 use Rattle.pen.proofs.Convex.{Adjacent, here, there, Inside, inside-all, adjacent-on}
@@ -25,20 +24,11 @@ use Rattle.pen.proofs.Images.{map-mem, onwards, around-cons, around-len
 use Rattle.pen.proofs.Fits.{Rises, Steps, Low, IsQuarter}
 use Rattle.pen.proofs.Whole.{ringOf, pen-of}
 
-le-pos : {a b : ℕ} → a ≤ b → pos a ≼ pos b
-le-pos {a} {b} h = leZ-yes (le→leb a b h)
-
 flip-le : (a b : ℤ) → a ≼ b → negℤ b ≼ negℤ a
 flip-le = ring 2 _ (simp reify (omega arith))
 
 flip-lt : (a b : ℤ) → a ≺ b → negℤ b ≺ negℤ a
 flip-lt = ring 2 _ (simp reify (omega arith))
-
-sub-of : (x y z : ℤ) → x +ℤ y ≡ z → x ≡ z -ℤ y
-sub-of = ring 3 _ (simp reify (omega arith))
-
-diff : (a b : ℕ) → b ≤ a → pos (a - b) ≡ pos a -ℤ pos b
-diff a b h = let e : a - b + b ≡ a = omega arith in sub-of (pos (a - b)) (pos b) (pos a) (ap pos e)
 
 inner : (ax ay bx by cx cy p r : ℤ) → p ≡ ay -ℤ by → r ≡ bx -ℤ ax → p *ℤ cx +ℤ r *ℤ cy ≼ p *ℤ ax +ℤ r *ℤ ay →
     (negℤ by -ℤ negℤ ay) *ℤ cx +ℤ (ax -ℤ bx) *ℤ negℤ cy ≼ (negℤ by -ℤ negℤ ay) *ℤ ax +ℤ (ax -ℤ bx) *ℤ negℤ ay
@@ -46,8 +36,8 @@ inner = ring 8 _ (λ ρ e f h. (rw (e, f) at h) ⊢ simp reify (omega arith))
 
 rises : (all : List Corner) (A B : Corner) → (A .x < B .x) × (B .y < A .y) → ((C : Corner) → C ∈ all → Inside A B C) → Rises (map upward all) (upward A) (upward B)
 rises all A B h k = record {
-  across = ltZ-yes (lt→ltb (A .x) (B .x) (h .0));
-  up = flip-lt (pos (B .y)) (pos (A .y)) (ltZ-yes (lt→ltb (B .y) (A .y) (h .1)));
+  across = lt-pos (h .0);
+  up = flip-lt (pos (B .y)) (pos (A .y)) (lt-pos (h .1));
   inner = λ z m.
       let r = map-mem upward all m in
       let C = r .0 in

@@ -3,7 +3,7 @@ use Prim.Native.Nat.{ℕ, zero, suc, _+_, _*_, _-_, _≤_, _<_}
 use mathlib.Core.Path.{_≡_, refl, sym, subst}
 use mathlib.Core.List.{List, [], _∷_}
 use lib.ListN.{length}
-use native.Mathlib.Nat.{mul-le-mul, mul-le-mul-right, mul-comm}
+use native.Mathlib.Nat.{mul-le-mul, mul-comm}
 use native.Mathlib.Omega.{arith}
 use Rattle.pen.specs.declared.Setting.{Setting}
 use Rattle.pen.specs.declared.Edge.{Edge}
@@ -12,7 +12,7 @@ use Rattle.pen.specs.Cutting.{Corner, State, size, amount, step, put, on
 use Rattle.pen.specs.Moment.{Moment, cuts, cornersAt, Small, Cuttable, Ready}
 use Rattle.pen.proofs.Limits.{box-wide, box-high}
 use Rattle.pen.proofs.Chain.{Link}
-use Rattle.pen.proofs.Invariant.{After, upright, inner, Before, Going, after-reach, after-few, room}
+use Rattle.pen.proofs.Invariant.{After, upright, inner, Before, Going, after-reach, after-few, room, span}
 use Rattle.pen.proofs.Rounds.{amount-bounded}
 use Rattle.pen.proofs.Progress.{Stage, way, over, progress, out-few}
 use Rattle.pen.proofs.Slope.{times-one}
@@ -43,10 +43,10 @@ module _ {D k pu pv a b : ℕ} {t : State} (hd : D ≤ 32) (hb : b ≤ 32) (g : 
   x-small : t .x ≤ 32
   x-small = omega (arith, after-reach (g .ahead))
 
-  y-small : t .y ≤ 32
+  pub y-small : t .y ≤ 32
   y-small = omega (arith, g .behind .down)
 
-  before-small : Small (t .before)
+  pub before-small : Small (t .before)
   before-small =
       let L = t .before in
       let hx = x-small in
@@ -60,7 +60,7 @@ module _ {D k pu pv a b : ℕ} {t : State} (hd : D ≤ 32) (hb : b ≤ 32) (g : 
         l2-small = omega arith;
       }
 
-after-small : {D pu pv x y : ℕ} {R : Edge} {rest : List Edge} → D ≤ 32 → y ≤ 32 → After D pu pv x y (R ∷ rest) → Small R
+pub after-small : {D pu pv x y : ℕ} {R : Edge} {rest : List Edge} → D ≤ 32 → y ≤ 32 → After D pu pv x y (R ∷ rest) → Small R
 after-small hd hy (upright r) = record {
   u-small = omega (arith, r .level);
   v-small = omega (arith, r .up);
@@ -105,7 +105,7 @@ module _ (σ : Setting) (τ : Taken σ) where
         cuttable = record {
           left = s .left;
           right = s .right;
-          across = omega (arith, mul-le-mul-right (L .u) (s .left), g .behind .across);
+          across = span L (amount σ L R) (s .left) (g .behind);
           down = room (amount σ L R) (s .right) q;
           offset = s .offset;
         };

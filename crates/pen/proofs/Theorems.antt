@@ -1,11 +1,12 @@
 -- The claims of specs/Theorems.antt, each under its name there.
 use mathlib.Core.Path.{_≡_}
 use native.Mathlib.Nat.{le-antisymm}
-use Rattle.pen.specs.Theorems.{NearRootHolds, NearRootUnique, StepsFall, AtMost33, EndsWithQuarter, NothingBelowZero, QuarterFew, QuarterBox, PenFew, PenIsPen}
+use Rattle.pen.specs.Theorems.{NearRootHolds, NearRootUnique, StepsFall, QuarterPuts, AtMost33, EndsWithQuarter, NothingBelowZero, QuarterFew, QuarterBox, PenFew, PenIsPen}
 use Rattle.pen.proofs.NearRoot.{nearRoot-ok, nearRoot-one}
 use Rattle.pen.proofs.Progress.{falls-put, falls-on, ends-with}
 use Rattle.pen.proofs.Sizes.{at-most, ready}
 use Rattle.pen.proofs.Ranges.{few-corners, in-box}
+use Rattle.pen.proofs.Rules.{puts-quarter}
 use Rattle.pen.proofs.PenLaw.{is-pen, few-of-pen}
 
 pub near-root-holds : NearRootHolds
@@ -16,6 +17,9 @@ near-root-unique σ τ u v m n a b = le-antisymm (nearRoot-one σ τ u v m n a b
 
 pub steps-fall : StepsFall
 steps-fall σ τ out t m = (λ r e. falls-put σ τ m e, λ r e. falls-on σ τ m e)
+
+pub quarter-puts : QuarterPuts
+quarter-puts = puts-quarter
 
 pub at-most-33 : AtMost33
 at-most-33 σ τ out t m = at-most σ τ m
