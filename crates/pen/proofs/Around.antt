@@ -2,9 +2,9 @@
 -- the same turned by half a turn.
 use mathlib.Core.Path.{_≡_, refl, sym, ap, subst}
 use mathlib.Core.Logic.{_⊎_, inl, inr}
-use mathlib.Core.List.{List, [], _∷_, map, List·Memᴰ, List·Memᴰ·head, List·Memᴰ·tail}
+use mathlib.Core.List.{List, [], _∷_, map, List·Memᴰ·head, List·Memᴰ·tail}
 use native.Mathlib.Omega.{arith}
-use lib.IntN.{ℤ, pos, negℤ, _+ℤ_, _-ℤ_, _*ℤ_}
+use lib.IntN.{ℤ, pos, negℤ, _-ℤ_}
 use Rattle.integers.specs.Orders.{_≼_, _≺_}
 use Rattle.integers.specs.Count.{_∈_}
 use Rattle.integers.proofs.Ring.{ring, reify}

@@ -8,7 +8,7 @@ use Rattle.integers.specs.Orders.{_≼_, _≺_}
 use Rattle.integers.specs.Count.{_∈_}
 use Rattle.integers.proofs.Ring.{ring, reify, _⊢_}
 use Rattle.integers.proofs.Order.{mul-nn, sub-nn, sub-pos, mul-bound}
-use Rattle.pen.specs.Polygon.{Pt, pt, turned}
+use Rattle.pen.specs.Polygon.{Pt, turned}
 use Rattle.pen.specs.Laws.{Side, dot, edge}
 use Rattle.pen.proofs.Images.{neg-neg}
 

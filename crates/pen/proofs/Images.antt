@@ -1,8 +1,8 @@
 -- The corners of the walk around the whole polygon are the mirror images of the quarter's corners, and those only.
-use Prim.Native.Nat.{ℕ, suc, _+_, _*_}
+use Prim.Native.Nat.{_+_, _*_}
 use mathlib.Core.Path.{_≡_, refl, sym, ap, _∙_}
 use mathlib.Core.Logic.{_⊎_, inl, inr}
-use mathlib.Core.List.{List, [], _∷_, map, List·Memᴰ, List·Memᴰ·head, List·Memᴰ·tail, List·Memᴰ·not-nil, Memᴰ·cast}
+use mathlib.Core.List.{List, [], _∷_, map, List·Memᴰ·head, List·Memᴰ·tail, List·Memᴰ·not-nil, Memᴰ·cast}
 use lib.ListN.{length, length-map}
 use lib.IntN.{ℤ, negℤ}
 use native.Mathlib.Omega.{arith}
@@ -27,10 +27,6 @@ crossed z = pt (negℤ (z .x)) (z .y)
 -- the walk around the polygon of c and q, after c
 abbrev pub onwards : Pt → List Pt → List Pt
 onwards c q = upAndBack q (flipped c ∷ turned c ∷ map turned (upAndBack q (flipped c ∷ [])))
-
-pub around-cons : (c : Pt) (q : List Pt) → around (c ∷ q) ≡ c ∷ onwards c q
-unfolding upAndBack
-around-cons c q = refl
 
 -- ---- how many they are
 side-length : (q l : List Pt) → length (upAndBack q l) ≡ length q + length q + length l

@@ -2,7 +2,7 @@
 use Prim.Native.Nat.{ℕ, zero, suc, _+_, _*_, _-_, _^_, _≤_, _<_}
 use mathlib.Core.Path.{_≡_, subst}
 use mathlib.Core.Bool.{Bool, true, false, not}
-use native.Mathlib.Nat.{mul-add, mul-assoc, mul-left-comm, mul-le-mul, mul-le-mul-left, one-le-mul, pow-succ'}
+use native.Mathlib.Nat.{mul-add, mul-assoc, mul-left-comm, mul-le-mul, mul-le-mul-left, one-le-mul, pow-succ', le-antisymm}
 use native.Mathlib.Numerals.{add-one}
 use native.Mathlib.Omega.{arith}
 use lib.Dec.{T, leb, leb→le, nleb→lt}
@@ -11,10 +11,12 @@ use Rattle.pen.specs.Setting.{Taken}
 use Rattle.pen.specs.NearRoot.{NearRoot, norm, lower, tried, bisect, nearRoot}
 
 -- ---- the search by halves, for any f
+-- m is where f passes g
 record Found (f : ℕ → ℕ) (g m : ℕ) : Type 0 where
   low : f m ≤ g
   high : g < f (suc m)
 
+-- what is sought lies from m to m + 2^k
 bisect-ok : (f : ℕ → ℕ) (g k m : ℕ) → f m ≤ g → g < f (m + 2 ^ k) → Found f g (bisect f g k m)
 unfolding bisect tried
 bisect-ok f g zero m h i = record { low = h; high = rw add-one at i }
@@ -48,6 +50,7 @@ module _ (σ : Setting) (t : Taken σ) (u v : ℕ) where
       let h5 : σ .w * σ .w * (q2 * (u * u)) ≤ 262144 * (q2 * 4096) = mul-le-mul h2 h4 in
       omega (arith, mul-add (σ .w * σ .w) (σ .p * σ .p * (v * v)) (q2 * (u * u)), one-le-mul (t .q-low) (t .q-low))
 
+  -- 16² q² ≤ w² q² u²
   scaled-low : 1 ≤ u → lower σ 1 ≤ σ .w * σ .w * norm σ u v
   unfolding norm lower
   scaled-low hu =
@@ -60,6 +63,7 @@ module _ (σ : Setting) (t : Taken σ) (u v : ℕ) where
   unfolding lower
   lower-zero g = omega arith
 
+  -- the near root is at least 1
   positive-of : (m g : ℕ) → lower σ 1 ≤ g → g < lower σ (suc m) → 1 ≤ m
   positive-of zero g a b = omega arith
   positive-of (suc m) g a b = omega arith
@@ -77,9 +81,9 @@ module _ (σ : Setting) (t : Taken σ) (u v : ℕ) where
         most = rw e at (f .high);
       }
 
-  -- there is only one
-  pub nearRoot-one : (m n : ℕ) → NearRoot σ u v m → NearRoot σ u v n → m ≤ n
-  nearRoot-one m n a b = go (leb m n) (leb→le m n) (nleb→lt m n)
+  -- there is only one: for n < m the range of n ends where that of m has not begun
+  nearRoot-le : (m n : ℕ) → NearRoot σ u v m → NearRoot σ u v n → m ≤ n
+  nearRoot-le m n a b = go (leb m n) (leb→le m n) (nleb→lt m n)
     where
       go : (c : Bool) → (T c → m ≤ n) → (T (not c) → n < m) → m ≤ n
       go true y k = y tt
@@ -87,3 +91,6 @@ module _ (σ : Setting) (t : Taken σ) (u v : ℕ) where
           let h : n < m = k tt in
           let s : (2 * n + 1) * (2 * n + 1) ≤ (2 * m - 1) * (2 * m - 1) = square (2 * n + 1) (2 * m - 1) (omega arith) in
           absurd (omega (arith, mul-le-mul-left (64 * (σ .q * σ .q)) s, a .least, b .most))
+
+  pub nearRoot-one : (m n : ℕ) → NearRoot σ u v m → NearRoot σ u v n → m ≡ n
+  nearRoot-one m n a b = le-antisymm (nearRoot-le m n a b) (nearRoot-le n m b a)

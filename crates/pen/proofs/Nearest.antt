@@ -1,7 +1,7 @@
 -- Step 4's retained point over whole numbers: the natural quotient that `retained` computes, cut off at s, is the nearest whole number (half goes up), also
 -- where the numerator is below 0.
 use Prim.Native.Nat.{ℕ, _+_, _*_, _-_, _/_, _≤_, _<_, min}
-use mathlib.Core.Path.{_≡_, refl, sym, ap, _∙_, subst}
+use mathlib.Core.Path.{_≡_, sym, ap, _∙_}
 use mathlib.Core.Logic.{_⊎_, inl, inr}
 use native.Mathlib.Nat.{div-eq-of-lt, one-le-mul}
 use native.Mathlib.Omega.{arith}
@@ -9,8 +9,8 @@ use lib.IntN.{ℤ, pos, _+ℤ_, _-ℤ_, _*ℤ_}
 use lib.Dec.{leb→le, ltb→lt}
 use Rattle.integers.specs.Orders.{_≼_, _≺_}
 use Rattle.integers.specs.Compare.{minZ, maxZ}
-use Rattle.integers.proofs.Ring.{ring, reify, _⊢_, var}
-use Rattle.integers.proofs.Order.{mul-nn, sub-nn, sub-pos, le-or-lt, le-refl, le-trans, le-antisymm}
+use Rattle.integers.proofs.Ring.{ring, reify, _⊢_}
+use Rattle.integers.proofs.Order.{mul-nn, sub-pos, le-or-lt, le-refl, le-trans, le-antisymm}
 use Rattle.integers.proofs.Tests.{max-l, max-r, max-le, min-r}
 use Rattle.integers.proofs.Floor.{fdiv, fdiv-lo, fdiv-hi}
 use Rattle.pen.specs.declared.Setting.{Setting}

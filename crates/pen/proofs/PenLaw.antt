@@ -1,7 +1,7 @@
 -- The built pen satisfies the laws of a pen, and has at most four times as many corners as its quarter: from the chain of the quarter, in naturals with y
 -- downwards, to a convex quarter in whole numbers with y upwards.
-use Prim.Native.Nat.{ℕ, suc, _+_, _*_, _-_, _≤_, _<_}
-use mathlib.Core.Path.{_≡_, refl, sym, ap, _∙_, subst}
+use Prim.Native.Nat.{ℕ, _-_, _≤_, _<_}
+use mathlib.Core.Path.{_≡_, sym, ap, subst}
 use mathlib.Core.List.{List, [], _∷_, map}
 use lib.ListN.{length, length-map}
 use native.Mathlib.Omega.{arith}
@@ -12,7 +12,7 @@ use Rattle.integers.proofs.Ring.{ring, reify, _⊢_}
 use Rattle.pen.specs.declared.Setting.{Setting}
 use Rattle.pen.specs.Setting.{Taken, Dx, Dy}
 use Rattle.pen.specs.Cutting.{Corner, quarter}
-use Rattle.pen.specs.Polygon.{Pt, pt, upward, upAndBack, around, onceEach, closed, whole, pen}
+use Rattle.pen.specs.Polygon.{Pt, upward, upAndBack, around, closed, whole, pen}
 use Rattle.pen.specs.Laws.{dot, edge, PenLaws}
 use Rattle.pen.proofs.Limits.{box-wide, box-high}
 use Rattle.pen.proofs.Naturals.{le-pos, lt-pos, diff}
@@ -20,9 +20,9 @@ use Rattle.pen.proofs.Chain.{Chain, stop, link}
 use Rattle.pen.proofs.Ranges.{x-range, y-range, few-corners, some, split-chain, lowest}
 use Rattle.pen.proofs.Convex.{Adjacent, here, there, Inside, inside-all, adjacent-on}
 use Rattle.pen.proofs.Once.{once-few}
-use Rattle.pen.proofs.Images.{map-mem, onwards, around-cons, around-length}
+use Rattle.pen.proofs.Images.{map-mem, around-length}
 use Rattle.pen.proofs.Fits.{Rises, Steps, Low, IsQuarter}
-use Rattle.pen.proofs.Whole.{ringOf, pen-of}
+use Rattle.pen.proofs.Whole.{pen-of}
 
 flip-le : (a b : ℤ) → a ≼ b → negℤ b ≼ negℤ a
 flip-le = ring 2 _ (simp reify (omega arith))

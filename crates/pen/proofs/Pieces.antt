@@ -2,7 +2,7 @@
 -- wants it. The new edge's offset L.c + R.c - s is that of its start and of its end since at a cut the determinant of L and R is 1.
 use Prim.Native.Nat.{ℕ, suc, _+_, _*_, _-_, _≤_, _<_}
 use mathlib.Core.Path.{_≡_, ap, _∙_, subst}
-use mathlib.Core.List.{List, [], _∷_}
+use mathlib.Core.List.{List, _∷_}
 use native.Mathlib.Nat.{mul-add, add-mul, mul-comm, mul-one, mul-zero, zero-mul}
 use native.Mathlib.Omega.{arith}
 use Rattle.pen.specs.declared.Edge.{Edge}
@@ -91,7 +91,7 @@ gone {D} {x = x} {y = y} {R = R} {rest = rest} s h e (inner y′ r k) =
     (r .right, subst (λ (z : ℕ). After D (R .u) (R .v) z (y - s * R .v) rest) ex (subst (λ (z : ℕ). After D (R .u) (R .v) (x + size R * R .u) z rest) ey k))
 
 -- the offset of the new edge, at its start and at its end
-pub cut-back : (Lu Lv Ru Rv s x y cl cr : ℕ) → Lu * Rv ≡ suc (Lv * Ru) → s * Lu ≤ x → cl ≡ Lv * x + Lu * y → cr ≡ Rv * x + Ru * y →
+cut-back : (Lu Lv Ru Rv s x y cl cr : ℕ) → Lu * Rv ≡ suc (Lv * Ru) → s * Lu ≤ x → cl ≡ Lv * x + Lu * y → cr ≡ Rv * x + Ru * y →
     cl + cr - s ≡ (Lv + Rv) * (x - s * Lu) + (Lu + Ru) * (y + s * Lv)
 cut-back Lu Lv Ru Rv s x y cl cr d h e f =
     omega (

@@ -1,8 +1,8 @@
 -- The quarter at every moment: as many corners are out as there is room for, the state is on the way or no corner is left, and going on from it makes
 -- out of the corners that are out the whole quarter.
-use Prim.Native.Nat.{ℕ, zero, suc, _+_, _*_, _-_, _≤_, _<_, min}
-use mathlib.Core.Path.{_≡_, refl, sym, ap, _∙_, subst}
-use mathlib.Core.Logic.{_⊎_, inl, inr}
+use Prim.Native.Nat.{ℕ, zero, suc, _+_, _*_, _≤_, _<_, min}
+use mathlib.Core.Path.{_≡_, refl, sym, ap, _∙_}
+use mathlib.Core.Logic.{inl, inr}
 use mathlib.Core.List.{List, [], _∷_, _++_, append-nil}
 use lib.ListN.{length, length-append}
 use lib.Seq.{append-snoc}
@@ -11,10 +11,10 @@ use native.Mathlib.Omega.{arith}
 use Rattle.pen.specs.declared.Setting.{Setting}
 use Rattle.pen.specs.declared.Edge.{Edge}
 use Rattle.pen.specs.Setting.{Taken, Dx, Dy}
-use Rattle.pen.specs.Cutting.{Corner, State, Step, ended, put, on, size, first, step, stepAt, corners, quarter}
+use Rattle.pen.specs.Cutting.{Corner, State, Step, ended, put, on, first, step, stepAt, corners, quarter}
 use Rattle.pen.specs.Moment.{Moment, start, puts, cuts, sum, total}
 use Rattle.pen.proofs.Limits.{box-wide, box-high}
-use Rattle.pen.proofs.Invariant.{Going, upright, after-reach}
+use Rattle.pen.proofs.Invariant.{Going, upright}
 use Rattle.pen.proofs.Rounds.{round, from}
 use Rattle.pen.proofs.Slope.{times-one}
 

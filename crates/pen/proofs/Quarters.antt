@@ -1,12 +1,11 @@
 -- The corners that the rounds put out from a state on the way are a chain, so the quarter is one.
-use Prim.Native.Nat.{ℕ, zero, suc, _+_, _*_, _≤_, _<_}
-use mathlib.Core.Path.{_≡_, refl, subst}
-use mathlib.Core.Logic.{_⊎_, inl, inr}
-use mathlib.Core.List.{List, [], _∷_}
+use Prim.Native.Nat.{ℕ, zero, suc, _+_, _*_, _≤_}
+use mathlib.Core.Path.{refl, subst}
+use mathlib.Core.Logic.{inl, inr}
 use native.Mathlib.Omega.{arith}
 use Rattle.pen.specs.declared.Setting.{Setting}
 use Rattle.pen.specs.Setting.{Taken, Dx, Dy}
-use Rattle.pen.specs.Cutting.{Corner, State, Step, ended, put, on, first, step, corners, quarter}
+use Rattle.pen.specs.Cutting.{State, Step, ended, put, on, first, step, corners, quarter}
 use Rattle.pen.specs.Moment.{total}
 use Rattle.pen.proofs.Chain.{Link, Chain, stop, link}
 use Rattle.pen.proofs.Invariant.{Going}

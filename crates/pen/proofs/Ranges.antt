@@ -1,8 +1,8 @@
 -- Where the corners of a chain lie, and how many they are: each is further right and higher than the one before; and the quarter, which is a chain, in
 -- its box.
-use Prim.Native.Nat.{ℕ, zero, suc, _+_, _*_, _≤_, _<_}
+use Prim.Native.Nat.{ℕ, suc, _+_, _*_, _≤_, _<_}
 use mathlib.Core.Path.{_≡_, refl, ap, _∙_, subst}
-use mathlib.Core.List.{List, [], _∷_, List·Memᴰ, List·Memᴰ·head, List·Memᴰ·tail}
+use mathlib.Core.List.{List, _∷_, List·Memᴰ·head, List·Memᴰ·tail}
 use lib.ListN.{length}
 use native.Mathlib.Nat.{mul-zero, one-le-mul}
 use native.Mathlib.Omega.{arith}

@@ -1,7 +1,7 @@
 -- One round of the steps from a state on the way: the corner is put out, and the next state is on the way or has no corner left; or it is cut, and the
 -- next state is on the way. Either takes at least one off the sum of l1 + l2.
 use Prim.Native.Nat.{ℕ, zero, suc, _+_, _*_, _-_, _≤_, _<_, min}
-use mathlib.Core.Path.{_≡_, refl, sym, subst}
+use mathlib.Core.Path.{_≡_, refl, subst}
 use mathlib.Core.Logic.{_⊎_, inl, inr}
 use mathlib.Core.Bool.{Bool, true, false, not}
 use mathlib.Core.List.{List, [], _∷_}
@@ -13,7 +13,7 @@ use Rattle.pen.specs.declared.Edge.{Edge}
 use Rattle.pen.specs.NearRoot.{nearRoot}
 use Rattle.pen.specs.Cutting.{Corner, State, Step, ended, put, on, size, amount, passed, cut, act, stepAt, step, corners}
 use Rattle.pen.specs.Moment.{sum, total}
-use Rattle.pen.proofs.Invariant.{Inner, After, upright, inner, Going, after-reach}
+use Rattle.pen.proofs.Invariant.{Inner, After, upright, inner, Going}
 use Rattle.pen.proofs.Cuts.{Closer, cut-closer}
 use Rattle.pen.proofs.Slope.{slide-on}
 

@@ -2,11 +2,12 @@
 -- they end before their count does.
 use Prim.Native.Nat.{ℕ, zero, suc, _+_, _*_, _-_, _≤_, _<_, min}
 use mathlib.Core.Path.{_≡_, refl, sym, ap, _∙_, subst}
-use mathlib.Core.Logic.{_⊎_, inl, inr}
+use mathlib.Core.Logic.{inl, inr}
 use mathlib.Core.Bool.{Bool, true, false, not}
 use mathlib.Core.List.{List, [], _∷_}
 use native.Mathlib.Omega.{arith}
 use lib.Dec.{T, ltb, eqb, ltb→lt, nltb→le, eqb→eq}
+use mir.Facts.{eqb-no}
 use lib.IntN.{ℤ, pos, _-ℤ_}
 use Rattle.integers.specs.Orders.{_≼_}
 use Rattle.integers.specs.Compare.{minZ}
@@ -17,15 +18,14 @@ use Rattle.pen.specs.declared.Setting.{Setting}
 use Rattle.pen.specs.declared.Edge.{Edge}
 use Rattle.pen.specs.Setting.{Taken, Dx, Dy}
 use Rattle.pen.specs.NearRoot.{NearRoot, nearRoot}
-use Rattle.pen.specs.Cutting.{Corner, State, size, amount, cutBy, cut, act, stepAt, step, first, corners, quarter}
+use Rattle.pen.specs.Cutting.{Corner, State, size, amount, cutBy, cut, act, stepAt, first, corners, quarter}
 use Rattle.pen.specs.Steps.{Amount, none, some, Out, Cut, Puts, nothing, puts, cuts}
-use Rattle.pen.specs.Moment.{sum, total}
+use Rattle.pen.specs.Moment.{total}
 use Rattle.pen.proofs.Limits.{box-wide, box-high}
 use Rattle.pen.proofs.Naturals.{le-pos, diff, min-pos}
 use Rattle.pen.proofs.NearRoot.{nearRoot-ok}
 use Rattle.pen.proofs.Nearest.{retained-ok}
 use Rattle.pen.proofs.Invariant.{After, upright, inner, Going, span}
-use Rattle.pen.proofs.Cuts.{neqb}
 use Rattle.pen.proofs.Rounds.{Bounded, amount-bounded, Passed, Round, round, from, state}
 use Rattle.pen.proofs.Progress.{first-going, first-total, corners-over}
 use Rattle.pen.proofs.Sizes.{before-small, after-small, y-small}
@@ -72,7 +72,7 @@ module _ (σ : Setting) (L R : Edge) where
 -- ---- steps 3 and 4
 cut-told : (σ : Setting) → Taken σ → (x y s : ℕ) (L R : Edge) (rest : List Edge) → 1 ≤ L .u → s * L .u ≤ x → s ≤ L .c + R .c → Cut σ x y s L R rest (cut σ x y s L R rest)
 cut-told σ τ x y s L R rest h reach offset =
-    go (eqb s (size L)) (eqb s (size R)) (eqb→eq s (size L)) (neqb s (size L)) (eqb→eq s (size R)) (neqb s (size R))
+    go (eqb s (size L)) (eqb s (size R)) (eqb→eq s (size L)) (λ t. eqb-no t) (eqb→eq s (size R)) (λ t. eqb-no t)
   where
     go : (bl br : Bool) → (T bl → s ≡ size L) → (T (not bl) → s ≡ size L → ⊥) → (T br → s ≡ size R) → (T (not br) → s ≡ size R → ⊥) →
         Cut σ x y s L R rest (cutBy bl br σ x y s L R rest)

@@ -1,18 +1,17 @@
 -- All numbers of a state on the way are small, since directions, lengths and coordinates lie in the box; and no difference in a round falls below 0.
-use Prim.Native.Nat.{ℕ, zero, suc, _+_, _*_, _-_, _≤_, _<_}
-use mathlib.Core.Path.{_≡_, refl, sym, subst}
-use mathlib.Core.List.{List, [], _∷_}
-use lib.ListN.{length}
+use Prim.Native.Nat.{ℕ, zero, suc, _+_, _*_, _≤_}
+use mathlib.Core.Path.{_≡_, subst}
+use mathlib.Core.List.{List, _∷_}
 use native.Mathlib.Nat.{mul-le-mul, mul-comm}
 use native.Mathlib.Omega.{arith}
 use Rattle.pen.specs.declared.Setting.{Setting}
 use Rattle.pen.specs.declared.Edge.{Edge}
-use Rattle.pen.specs.Setting.{Taken, Dx, Dy}
-use Rattle.pen.specs.Cutting.{Corner, State, size, amount, step, put, on}
-use Rattle.pen.specs.Moment.{Moment, cuts, cornersAt, Small, Cuttable, Ready}
-use Rattle.pen.proofs.Limits.{box-wide, box-high}
+use Rattle.pen.specs.Setting.{Taken, Dx}
+use Rattle.pen.specs.Cutting.{Corner, State, size, amount}
+use Rattle.pen.specs.Moment.{Moment, cuts, cornersAt, Small, Ready}
+use Rattle.pen.proofs.Limits.{box-wide}
 use Rattle.pen.proofs.Chain.{Link}
-use Rattle.pen.proofs.Invariant.{After, upright, inner, Before, Going, after-reach, after-few, room, span}
+use Rattle.pen.proofs.Invariant.{After, upright, inner, Going, after-reach, after-few, room, span}
 use Rattle.pen.proofs.Rounds.{amount-bounded}
 use Rattle.pen.proofs.Progress.{Stage, way, over, progress, out-few}
 use Rattle.pen.proofs.Slope.{times-one}

@@ -1,6 +1,4 @@
 -- The claims of specs/Theorems.antt, each under its name there.
-use mathlib.Core.Path.{_≡_}
-use native.Mathlib.Nat.{le-antisymm}
 use Rattle.pen.specs.Theorems.{NearRootHolds, NearRootUnique, StepsFall, QuarterPuts, AtMost33, EndsWithQuarter, NothingBelowZero, QuarterFew, QuarterBox, PenFew, PenIsPen}
 use Rattle.pen.proofs.NearRoot.{nearRoot-ok, nearRoot-one}
 use Rattle.pen.proofs.Progress.{falls-put, falls-on, ends-with}
@@ -13,7 +11,7 @@ pub near-root-holds : NearRootHolds
 near-root-holds = nearRoot-ok
 
 pub near-root-unique : NearRootUnique
-near-root-unique σ τ u v m n a b = le-antisymm (nearRoot-one σ τ u v m n a b) (nearRoot-one σ τ u v n m b a)
+near-root-unique = nearRoot-one
 
 pub steps-fall : StepsFall
 steps-fall σ τ out t m = (λ r e. falls-put σ τ m e, λ r e. falls-on σ τ m e)
