@@ -13,61 +13,63 @@ use Rattle.pen.specs.Polygon.{Pt, pt, flipped, turned, upAndBack}
 use Rattle.pen.specs.Laws.{edge}
 use Rattle.pen.proofs.Once.{Linked, linked-map}
 use Rattle.pen.proofs.Images.{onwards, turned-twice}
-use Rattle.pen.proofs.Fits.{Rises, Steps, IsQuarter, Fits, fits-turn, slant-a, slant-inner, slant-thick, upright-a, upright-inner, upright-thick, level-a, level-inner, level-thick}
+use Rattle.pen.proofs.Fits.{Rises, Steps, IsQuarter, Fits, fits-turn, spread, still, slant-inner, slant-thick, upright-inner, upright-thick, level-inner, level-thick}
 
 module _ (c : Pt) (q : List Pt) (Dx Dy : ℤ) (Q : IsQuarter c q Dx Dy) where
   abbrev Next : Pt → Pt → Type 0
   Next p r = (p ≡ r) ⊎ Fits (c ∷ q) (edge p r)
 
+  -- a slanted edge, and its mirror image in the x axis
   slant : (p r : Pt) → p ∈ c ∷ q → r ∈ c ∷ q → Rises (c ∷ q) p r → Fits (c ∷ q) (edge p r) × Fits (c ∷ q) (edge (flipped r) (flipped p))
   slant p r mp mr h =
-      let s = slant-a (p .x) (p .y) (r .x) (r .y) (h .across) (h .up) in
+      let sx = spread (p .x) (r .x) (h .across) in
+      let sy = spread (p .y) (r .y) (h .up) in
       let t = slant-thick (p .x) (p .y) (r .x) (r .y) (Q .low p mp .right₀) (Q .low r mr .below) (h .across) (h .up) in (
-        record { A = r .y -ℤ p .y; B = r .x -ℤ p .x; a≥ = s .0; a≤ = s .3; b≥ = s .1; b≤ = s .2; inner = λ z m. slant-inner (p .x) (p .y) (r .x) (r .y) (z .x) (z .y) (h .inner z m) .0; thick = t .0 },
-        record { A = r .y -ℤ p .y; B = r .x -ℤ p .x; a≥ = s .4; a≤ = s .5; b≥ = s .6; b≤ = s .7; inner = λ z m. slant-inner (p .x) (p .y) (r .x) (r .y) (z .x) (z .y) (h .inner z m) .1; thick = t .1 },
+        record { A = r .y -ℤ p .y; B = r .x -ℤ p .x; a-in = sy .0; b-in = sx .1; inner = λ z m. slant-inner (p .x) (p .y) (r .x) (r .y) (z .x) (z .y) (h .inner z m) .0; thick = t .0 },
+        record { A = r .y -ℤ p .y; B = r .x -ℤ p .x; a-in = sy .2; b-in = sx .0; inner = λ z m. slant-inner (p .x) (p .y) (r .x) (r .y) (z .x) (z .y) (h .inner z m) .1; thick = t .1 },
       )
 
+  -- the right side; where the last corner is on the x axis there is none
   upright : (p : Pt) → p ∈ c ∷ q → p .x ≡ Dx → Next p (flipped p)
   upright p m e = go (le-or-lt (pos 0) (p .y))
     where
       flat : (y : ℤ) → pos 0 ≼ y → y ≼ pos 0 → y ≡ negℤ y
       flat = ring 1 _ (λ ρ. simp (reify, ρ) (omega arith))
 
+      rises : (y : ℤ) → y ≺ pos 0 → y ≺ negℤ y
+      rises = ring 1 _ (λ ρ. simp (reify, ρ) (omega arith))
+
       go : (pos 0 ≼ p .y) ⊎ (p .y ≺ pos 0) → Next p (flipped p)
       go (inl h) = inl (λ i. pt (p .x) (flat (p .y) h (Q .low p m .below) i))
-      go (inr h) =
-          let a = upright-a (p .x) (p .y) h in
-          inr (record {
-            A = negℤ (p .y) -ℤ p .y;
-            B = pos 0;
-            a≥ = a .0;
-            a≤ = a .1;
-            b≥ = a .2;
-            b≤ = a .3;
-            inner = λ z n. upright-inner (p .x) (p .y) (z .x) (z .y) h (subst (λ w. z .x ≼ w) (sym e) (Q .low z n .wide));
-            thick = upright-thick (p .x) (p .y) h (subst (λ w. pos 1 ≼ w) (sym e) (Q .wide₁));
-          })
+      go (inr h) = inr (record {
+        A = negℤ (p .y) -ℤ p .y;
+        B = pos 0;
+        a-in = spread (p .y) (negℤ (p .y)) (rises (p .y) h) .0;
+        b-in = still (p .x);
+        inner = λ z n. upright-inner (p .x) (p .y) (z .x) (z .y) h (subst (λ w. z .x ≼ w) (sym e) (Q .low z n .wide));
+        thick = upright-thick (p .x) (p .y) h (subst (λ w. pos 1 ≼ w) (sym e) (Q .wide₁));
+      })
 
+  -- the top; where the lowest corner is on the y axis there is none
   level : Next (flipped c) (turned c)
   level = go (le-or-lt (c .x) (pos 0))
     where
       flat : (x : ℤ) → x ≼ pos 0 → pos 0 ≼ x → x ≡ negℤ x
       flat = ring 1 _ (λ ρ. simp (reify, ρ) (omega arith))
 
+      wide : (x : ℤ) → pos 0 ≺ x → negℤ x ≺ x
+      wide = ring 1 _ (λ ρ. simp (reify, ρ) (omega arith))
+
       go : (c .x ≼ pos 0) ⊎ (pos 0 ≺ c .x) → Next (flipped c) (turned c)
       go (inl h) = inl (λ i. pt (flat (c .x) h (Q .low c (List·Memᴰ·head refl) .right₀) i) (negℤ (c .y)))
-      go (inr h) =
-          let a = level-a (c .x) (c .y) h in
-          inr (record {
-            A = pos 0;
-            B = c .x -ℤ negℤ (c .x);
-            a≥ = a .0;
-            a≤ = a .1;
-            b≥ = a .2;
-            b≤ = a .3;
-            inner = λ z n. level-inner (c .x) (c .y) (z .x) (z .y) h (subst (λ w. w ≼ z .y) (sym (Q .bottom)) (Q .low z n .deep));
-            thick = level-thick (c .x) (c .y) Dy h (Q .high₁) (Q .bottom);
-          })
+      go (inr h) = inr (record {
+        A = pos 0;
+        B = c .x -ℤ negℤ (c .x);
+        a-in = still (negℤ (c .y));
+        b-in = spread (negℤ (c .x)) (c .x) (wide (c .x) h) .0;
+        inner = λ z n. level-inner (c .x) (c .y) (z .x) (z .y) h (subst (λ w. w ≼ z .y) (sym (Q .bottom)) (Q .low z n .deep));
+        thick = level-thick (c .x) (c .y) Dy h (Q .high₁) (Q .bottom);
+      })
 
   -- up the quarter and back
   up : (f p : Pt) (r l : List Pt) → p ∈ c ∷ q → ((z : Pt) → z ∈ r → z ∈ c ∷ q) → Steps (Rises (c ∷ q)) Dx p r → Linked Next f (flipped p) l → Linked Next f p (upAndBack r (flipped p ∷ l))
@@ -85,6 +87,7 @@ module _ (c : Pt) (q : List Pt) (Dx Dy : ℤ) (Q : IsQuarter c q Dx Dy) where
   half-turn f p [] h = next-turned p f h
   half-turn f p (r ∷ l) h = (next-turned p r (h .0), half-turn f r l (h .1))
 
+  -- the right side, the top, and both turned by half a turn, back to c
   pub all-linked : Linked Next c c (onwards c q)
   unfolding upAndBack
   all-linked =

@@ -10,6 +10,7 @@ use Rattle.integers.specs.Count.{_∈_}
 use Rattle.integers.proofs.Ring.{ring, reify}
 use Rattle.pen.specs.Polygon.{Pt, pt, flipped, turned, upAndBack, around}
 
+-- the elements of a mapped list
 pub map-mem : {A B : Type 0} (f : A → B) (l : List A) {y : B} → y ∈ map f l → (x : A) × (x ∈ l) × (y ≡ f x)
 map-mem f [] m = absurd (List·Memᴰ·not-nil m)
 map-mem f (x ∷ l) (List·Memᴰ·head e) = (x, List·Memᴰ·head refl, e)
@@ -38,6 +39,7 @@ pub around-length : (q : List Pt) → length (around q) ≡ 4 * length q
 around-length q = omega (arith, side-length q (map turned (upAndBack q [])), length-map (upAndBack q []) turned, side-length q [])
 
 -- ---- which they are
+-- l, then q and its mirror images in the x axis, are the points of the right side
 side-on : (q l : List Pt) {z : Pt} → z ∈ l → z ∈ upAndBack q l
 unfolding upAndBack
 side-on [] l m = m
@@ -104,6 +106,7 @@ module _ (c : Pt) (q : List Pt) where
   image-in {z} m (isTurned e) = Memᴰ·cast e (side-on (c ∷ q) (map turned (upAndBack (c ∷ q) [])) (mem-map turned (upAndBack (c ∷ q) []) (side-in (c ∷ q) [] m .0)))
   image-in {z} m (isCrossed e) = Memᴰ·cast (e ∙ sym (turned-flipped z)) (side-on (c ∷ q) (map turned (upAndBack (c ∷ q) [])) (mem-map turned (upAndBack (c ∷ q) []) (side-in (c ∷ q) [] m .1)))
 
+-- the mirror images of an image
 pub image-crossed : {z w : Pt} → Image z w → Image z (crossed w)
 image-crossed (is e) = isCrossed (ap crossed e)
 image-crossed (isFlipped e) = isTurned (ap crossed e)

@@ -18,6 +18,7 @@ abbrev pub Linked : (Pt → Pt → Type 0) → Pt → Pt → List Pt → Type 0
 Linked R f p [] = R p f
 Linked R f p (r ∷ l) = R p r × Linked R f r l
 
+-- what holds of neighbours holds of the edges
 pub linked-edge : (G : Side → Type 0) (f p : Pt) (l : List Pt) → Linked (λ p r. G (edge p r)) f p l → (e : Side) → e ∈ chain f p l → G e
 unfolding chain
 linked-edge G f p [] h e (List·Memᴰ·head k) = subst G (sym k) h
@@ -29,6 +30,7 @@ pub linked-map : (R : Pt → Pt → Type 0) (t : Pt → Pt) (f p : Pt) (l : List
 linked-map R t f p [] h = h
 linked-map R t f p (r ∷ l) h = (h .0, linked-map R t f r l (h .1))
 
+-- the test of equal points
 same-eq : (p r : Pt) → same p r ≡ true → p ≡ r
 same-eq p r e =
     let h = and-both (eqZ (p .x) (r .x)) (eqZ (p .y) (r .y)) e in
@@ -67,6 +69,7 @@ module _ (S : Pt → Pt → Type 0) (f : Pt) where
       go false e (inr h) m k = keep m h k
 
 module _ (f : Pt) where
+  -- the same points are left, but that f may be left out
   pub once-sub : (p : Pt) (l : List Pt) {z : Pt} → z ∈ onceEach f p l → z ∈ p ∷ l
   unfolding onceEach
   once-sub p [] {z} m = go (same p f) m

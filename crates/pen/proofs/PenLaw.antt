@@ -30,10 +30,12 @@ flip-le = ring 2 _ (simp reify (omega arith))
 flip-lt : (a b : ℤ) → a ≺ b → negℤ b ≺ negℤ a
 flip-lt = ring 2 _ (simp reify (omega arith))
 
+-- the inner side of an edge, with y downwards and upwards
 inner : (ax ay bx by cx cy p r : ℤ) → p ≡ ay -ℤ by → r ≡ bx -ℤ ax → p *ℤ cx +ℤ r *ℤ cy ≼ p *ℤ ax +ℤ r *ℤ ay →
     (negℤ by -ℤ negℤ ay) *ℤ cx +ℤ (ax -ℤ bx) *ℤ negℤ cy ≼ (negℤ by -ℤ negℤ ay) *ℤ ax +ℤ (ax -ℤ bx) *ℤ negℤ ay
 inner = ring 8 _ (λ ρ e f h. (rw (e, f) at h) ⊢ simp reify (omega arith))
 
+-- neighbours of the quarter, y upwards
 rises : (all : List Corner) (A B : Corner) → (A .x < B .x) × (B .y < A .y) → ((C : Corner) → C ∈ all → Inside A B C) → Rises (map upward all) (upward A) (upward B)
 rises all A B h k = record {
   across = lt-pos (h .0);
@@ -70,6 +72,7 @@ module _ (σ : Setting) (τ : Taken σ) where
         high₁ = le-pos (box-high τ .0);
       }
 
+  -- the pen is the polygon of this quarter
   pub is-pen : PenLaws (pen σ) (pos (Dx σ)) (pos (Dy σ))
   unfolding pen upAndBack
   is-pen = subst (λ (cs : List Corner). PenLaws (whole (map upward cs)) (pos (Dx σ)) (pos (Dy σ))) (sym (some σ τ .cons)) (pen-of _ _ (pos (Dx σ)) (pos (Dy σ)) is-quarter)

@@ -1,5 +1,5 @@
--- The quarter at every moment: as many corners are out as there is room for, the state is on the way or no corner is left, and going on from it makes
--- out of the corners that are out the whole quarter.
+-- The quarter at every moment, by one induction: the state is on the way or no corner is left, at most so many corners are out, and what the rounds still put
+-- out makes the quarter of them. What is claimed of moments is read off `progress`.
 use Prim.Native.Nat.{ℕ, zero, suc, _+_, _*_, _≤_, _<_, min}
 use mathlib.Core.Path.{_≡_, refl, sym, ap, _∙_}
 use mathlib.Core.Logic.{inl, inr}
@@ -32,12 +32,13 @@ first-going σ t =
       ahead = upright (record { level = refl; up = refl; start = refl; half = high .0; tall = high .1; place = refl; line = refl });
     }
 
+-- 2 Dx + 2 Dy rounds are enough
 pub first-total : (σ : Setting) → total (first σ) ≤ 2 * Dx σ + 2 * Dy σ
 unfolding sum
 first-total σ = omega arith
 
 -- ---- what is still put out
--- f rounds are enough from t on, and put out what `out` lacks of the quarter
+-- `fuel` rounds are enough from t on, and put out what `out` lacks of the quarter
 record Counted (σ : Setting) (out : List Corner) (t : State) : Type 0 where
   fuel : ℕ
   enough : total t ≤ fuel
@@ -47,6 +48,7 @@ abbrev at : State → Corner
 at t = record { x = t .x; y = t .y }
 
 module _ (σ : Setting) where
+  -- one round of `corners`
   pub corners-over : (f : ℕ) (t : State) → t .after ≡ [] → corners σ f t ≡ []
   unfolding corners
   corners-over zero t e = refl
@@ -60,6 +62,7 @@ module _ (σ : Setting) where
   unfolding corners
   corners-on f t r e = ap (from σ f t) e
 
+  -- a round that puts out a corner, and one that cuts
   counted-put : (out : List Corner) (t r : State) → step σ t ≡ put r → total r < total t → Counted σ out t → Counted σ (out ++ at t ∷ []) r
   counted-put out t r e h c = go (c .fuel) (c .enough) (c .agrees)
     where
@@ -87,6 +90,7 @@ out-few {t = t} out g h =
     let u = times-one (t .before .u) (t .before .l2) (g .behind .right) in
     omega (arith, g .behind .across, g .behind .long, g .kept, mul-comm (t .before .u) (t .before .l2))
 
+-- where no corner is left no round follows
 no-step : (σ : Setting) (t : State) (s : Step) → t .after ≡ [] → step σ t ≡ s → s ≡ ended
 no-step σ t s e f = sym f ∙ ap (λ (es : List Edge). stepAt es σ (t .x) (t .y) (t .before)) e
 

@@ -12,6 +12,7 @@ use Rattle.pen.proofs.Invariant.{Going}
 use Rattle.pen.proofs.Rounds.{Passed, Round, round, from}
 use Rattle.pen.proofs.Progress.{first-going, first-total, corners-over}
 
+-- what f rounds put out
 abbrev Walk : Setting → ℕ → Type 0
 Walk σ f = (t : State) (D k pu pv a b : ℕ) → Going D k pu pv a b t → total t ≤ f → Chain D k pu pv a b (corners σ f t)
 
@@ -22,6 +23,7 @@ passing σ f rec {D} t r p h = elim (p .next) [
   | inr g ↦ rec r D 0 (t .before .u) (t .before .v) (t .x) (t .y) g (omega (arith, p .less))
 ]
 
+-- by the kind of the round
 stepping : (σ : Setting) (f : ℕ) → Walk σ f → {D k pu pv a b : ℕ} (t : State) → Going D k pu pv a b t → total t ≤ suc f → (s : Step) → Round D k pu pv a b t s → Chain D k pu pv a b (from σ f t s)
 stepping σ f rec t g h ended c = absurd (c .not-ended refl)
 stepping σ f rec {D} {k} {pu} {pv} {a} {b} t g h (put r) c =

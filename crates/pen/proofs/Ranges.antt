@@ -40,6 +40,7 @@ onward {l = l} {u} {v} r =
     let i : 1 ≤ l * v = one-le-mul {a = l} {b = v} (omega (arith, r .long)) (omega (arith, r .up)) in
     (omega (arith, r .across), omega (arith, r .down))
 
+-- each corner is at least one further right, but for the first, which may stand at the bottom edge's middle
 count : {D pu pv a b : ℕ} {cs : List Corner} → Chain D 0 pu pv a b cs → a + length cs ≤ D
 count (stop e) = omega arith
 count (link l u v r k) = omega (arith, onward r .0, count k)

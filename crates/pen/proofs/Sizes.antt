@@ -22,7 +22,7 @@ offset-small u v c x y hu hv hx hy e =
     let b : u * y ≤ 32 * 32 = mul-le-mul hu hy in
     omega arith
 
--- l directions are no shorter than l, and no shorter than one
+-- l directions that go to the right are at least l long
 spread : (l u n : ℕ) → 1 ≤ u → l * u ≤ n → l ≤ n
 spread l u n h k = omega (arith, times-one u l h, mul-comm u l)
 
