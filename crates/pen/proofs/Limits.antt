@@ -1,5 +1,5 @@
 -- A setting within the limits: the test and the record say the same, and the pen of such a setting is 1 to 32 pixels wide and high.
-use Prim.Native.Nat.{_+_, _*_, _≤_}
+use Prim.Native.Nat.{ℕ, _+_, _*_, _≤_}
 use mathlib.Core.Path.{_≡_, sym, subst}
 use mathlib.Core.Bool.{Bool, true, _&&_}
 use native.Mathlib.Nat.{le-div-iff-mul-le, div-lt-iff-lt-mul}
@@ -7,38 +7,35 @@ use native.Mathlib.Omega.{arith}
 use borrow.Author.Tests.{leb-true, le-leb}
 use Rattle.integers.proofs.Tests.{and-both}
 use Rattle.pen.specs.declared.Setting.{Setting}
-use Rattle.pen.specs.Setting.{Taken, taken, Dx, Dy}
+use Rattle.pen.specs.Setting.{Taken, within, taken, Dx, Dy}
 
 -- two tests that are both passed
 pass : {a b : Bool} → a ≡ true → b ≡ true → (a && b) ≡ true
 pass {a} {b} e f = subst (λ (c : Bool). (c && b) ≡ true) (sym e) f
+
+-- a number in its range
+pub read-within : (x low high : ℕ) → within x low high ≡ true → (low ≤ x) × (x ≤ high)
+read-within x low high e = let b = and-both _ _ e in (leb-true low x (b .0), leb-true x high (b .1))
+
+pass-within : (x low high : ℕ) → low ≤ x → x ≤ high → within x low high ≡ true
+pass-within x low high h k = pass (le-leb low x h) (le-leb x high k)
 
 pub taken-iff : (σ : Setting) → (taken σ ≡ true → Taken σ) × (Taken σ → taken σ ≡ true)
 unfolding taken
 taken-iff σ = (
   λ e.
       let all = and-both _ _ e in
-      let w = and-both _ _ (all .0) in
       let after-w = and-both _ _ (all .1) in
-      let p = and-both _ _ (after-w .0) in
       let after-p = and-both _ _ (after-w .1) in
-      let q = and-both _ _ (after-p .0) in
-      let wp = and-both _ _ (after-p .1) in
-      record {
-        w-low = leb-true 16 (σ .w) (w .0);
-        w-high = leb-true (σ .w) 512 (w .1);
-        p-low = leb-true 1 (σ .p) (p .0);
-        p-high = leb-true (σ .p) 16 (p .1);
-        q-low = leb-true 1 (σ .q) (q .0);
-        q-high = leb-true (σ .q) 16 (q .1);
-        low = leb-true (16 * σ .q) (σ .w * σ .p) (wp .0);
-        high = leb-true (σ .w * σ .p) (512 * σ .q) (wp .1);
-      },
+      let w = read-within (σ .w) 16 512 (all .0) in
+      let p = read-within (σ .p) 1 16 (after-w .0) in
+      let q = read-within (σ .q) 1 16 (after-p .0) in
+      let wp = read-within (σ .w * σ .p) (16 * σ .q) (512 * σ .q) (after-p .1) in
+      record { w-low = w .0; w-high = w .1; p-low = p .0; p-high = p .1; q-low = q .0; q-high = q .1; low = wp .0; high = wp .1 },
   λ t.
-      pass (pass (le-leb 16 (σ .w) (t .w-low)) (le-leb (σ .w) 512 (t .w-high)))
-      (pass (pass (le-leb 1 (σ .p) (t .p-low)) (le-leb (σ .p) 16 (t .p-high)))
-      (pass (pass (le-leb 1 (σ .q) (t .q-low)) (le-leb (σ .q) 16 (t .q-high)))
-      (pass (le-leb (16 * σ .q) (σ .w * σ .p) (t .low)) (le-leb (σ .w * σ .p) (512 * σ .q) (t .high))))),
+      pass (pass-within (σ .w) 16 512 (t .w-low) (t .w-high))
+      (pass (pass-within (σ .p) 1 16 (t .p-low) (t .p-high))
+      (pass (pass-within (σ .q) 1 16 (t .q-low) (t .q-high)) (pass-within (σ .w * σ .p) (16 * σ .q) (512 * σ .q) (t .low) (t .high)))),
 )
 
 -- (w p + 8 q) / 16 q, between 16 q and 520 q over 16 q

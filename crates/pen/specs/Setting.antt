@@ -15,10 +15,13 @@ pub record Taken (σ : Setting) : Type 0 where
   pub low : 16 * σ .q ≤ σ .w * σ .p
   pub high : σ .w * σ .p ≤ 512 * σ .q
 
--- the same as a test; `taken-iff` of proofs/Setting says so
+-- x is from low to high
+abbrev pub within : ℕ → ℕ → ℕ → Bool
+within x low high = leb low x && leb x high
+
+-- the same as a test: `taken-iff` of proofs/Setting says so
 unfoldable pub taken : Setting → Bool
-taken σ =
-    (leb 16 (σ .w) && leb (σ .w) 512) && ((leb 1 (σ .p) && leb (σ .p) 16) && ((leb 1 (σ .q) && leb (σ .q) 16) && (leb (16 * σ .q) (σ .w * σ .p) && leb (σ .w * σ .p) (512 * σ .q))))
+taken σ = within (σ .w) 16 512 && (within (σ .p) 1 16 && (within (σ .q) 1 16 && within (σ .w * σ .p) (16 * σ .q) (512 * σ .q)))
 
 -- "Dy is floor((w+8)/16); Dx is floor((w*p+8q)/(16q))": the pen is Dx pixels wide and Dy high
 unfoldable pub Dy : Setting → ℕ
