@@ -1,0 +1,86 @@
+-- The built pen satisfies the laws of a pen, and has at most four times as many corners as its quarter: from the chain of the quarter, in naturals with y
+-- downwards, to a convex quarter in whole numbers with y upwards.
+use Prim.Native.Nat.{ℕ, _-_, _≤_, _<_}
+use mathlib.Core.Path.{_≡_, sym, ap, subst}
+use mathlib.Core.List.{List, [], _∷_, map}
+use lib.ListN.{length, length-map}
+use native.Mathlib.Omega.{arith}
+use lib.IntN.{ℤ, pos, negℤ, _+ℤ_, _-ℤ_, _*ℤ_}
+use Rattle.integers.specs.Orders.{_≼_, _≺_}
+use Rattle.integers.specs.Count.{_∈_}
+use Rattle.integers.proofs.Ring.{ring, reify, _⊢_}
+use Rattle.pen.specs.declared.Setting.{Setting}
+use Rattle.pen.specs.Setting.{Taken, Dx, Dy}
+use Rattle.pen.specs.Cutting.{Corner, quarter}
+use Rattle.pen.specs.Polygon.{Pt, upward, upAndBack, around, closed, whole, pen}
+use Rattle.pen.specs.Laws.{dot, edge, PenLaws}
+use Rattle.pen.proofs.Limits.{box-wide, box-high}
+use Rattle.pen.proofs.Naturals.{le-pos, lt-pos, diff}
+use Rattle.pen.proofs.Chain.{Chain, stop, link}
+use Rattle.pen.proofs.Ranges.{x-range, y-range, few-corners, some, split-chain, lowest}
+use Rattle.pen.proofs.Convex.{Adjacent, here, there, Inside, inside-all, adjacent-on}
+use Rattle.pen.proofs.Once.{once-few}
+use Rattle.pen.proofs.Images.{map-mem, around-length}
+use Rattle.pen.proofs.Fits.{Rises, Steps, Low, IsQuarter}
+use Rattle.pen.proofs.Whole.{pen-of}
+
+flip-le : (a b : ℤ) → a ≼ b → negℤ b ≼ negℤ a
+flip-le = ring 2 _ (simp reify (omega arith))
+
+flip-lt : (a b : ℤ) → a ≺ b → negℤ b ≺ negℤ a
+flip-lt = ring 2 _ (simp reify (omega arith))
+
+-- the inner side of an edge, with y downwards and upwards
+inner : (ax ay bx by cx cy p r : ℤ) → p ≡ ay -ℤ by → r ≡ bx -ℤ ax → p *ℤ cx +ℤ r *ℤ cy ≼ p *ℤ ax +ℤ r *ℤ ay →
+    (negℤ by -ℤ negℤ ay) *ℤ cx +ℤ (ax -ℤ bx) *ℤ negℤ cy ≼ (negℤ by -ℤ negℤ ay) *ℤ ax +ℤ (ax -ℤ bx) *ℤ negℤ ay
+inner = ring 8 _ (λ ρ e f h. (rw (e, f) at h) ⊢ simp reify (omega arith))
+
+-- neighbours of the quarter, y upwards
+rises : (all : List Corner) (A B : Corner) → (A .x < B .x) × (B .y < A .y) → ((C : Corner) → C ∈ all → Inside A B C) → Rises (map upward all) (upward A) (upward B)
+rises all A B h k = record {
+  across = lt-pos (h .0);
+  up = flip-lt (pos (B .y)) (pos (A .y)) (lt-pos (h .1));
+  inner = λ z m.
+      let r = map-mem upward all m in
+      let C = r .0 in
+      subst (λ (w : Pt). dot (edge (upward A) (upward B) .a) (edge (upward A) (upward B) .b) w ≼ edge (upward A) (upward B) .c) (sym (r .2))
+      (inner (pos (A .x)) (pos (A .y)) (pos (B .x)) (pos (B .y)) (pos (C .x)) (pos (C .y)) (pos (A .y - B .y)) (pos (B .x - A .x)) (diff (A .y) (B .y) (omega arith)) (diff (B .x) (A .x) (omega arith)) (le-pos (k C (r .1))));
+}
+
+steps : {D k pu pv a b : ℕ} (R : Pt → Pt → Type 0) (P : Corner) (l : List Corner) → Chain D k pu pv a b (P ∷ l) → ((A B : Corner) → Adjacent A B (P ∷ l) → R (upward A) (upward B)) → Steps R (pos D) (upward P) (map upward l)
+steps R P [] (link l u v r (stop e)) f = ap pos e
+steps R P (Q ∷ ds) (link l u v r s) f = (f P Q here, steps R Q ds s (λ A B n. f A B (there n)))
+
+down : (y : ℕ) → negℤ (pos y) ≼ pos 0
+down y = flip-le (pos 0) (pos y) (le-pos (omega arith))
+
+module _ (σ : Setting) (τ : Taken σ) where
+  is-quarter : IsQuarter (upward (some σ τ .first)) (map upward (some σ τ .others)) (pos (Dx σ)) (pos (Dy σ))
+  is-quarter =
+      let c = some σ τ .first in
+      let l = some σ τ .others in
+      let s = split-chain σ τ in
+      record {
+        low = λ z m.
+            let r = map-mem upward (c ∷ l) m in
+            let C = r .0 in
+            subst (Low (pos (Dx σ)) (pos (Dy σ))) (sym (r .2)) (record
+            { right₀ = le-pos (omega arith); wide = le-pos (x-range s C (r .1) .1); below = down (C .y); deep = flip-le (pos (C .y)) (pos (Dy σ)) (le-pos (y-range s C (r .1))) });
+        steps = steps (Rises (map upward (c ∷ l))) c l s (λ A B n. rises (c ∷ l) A B (adjacent-on s n) (λ C m. inside-all s n C m));
+        bottom = ap (λ (y : ℕ). negℤ (pos y)) (lowest σ τ);
+        wide₁ = le-pos (box-wide τ .0);
+        high₁ = le-pos (box-high τ .0);
+      }
+
+  -- the pen is the polygon of this quarter
+  pub is-pen : PenLaws (pen σ) (pos (Dx σ)) (pos (Dy σ))
+  unfolding pen upAndBack
+  is-pen = subst (λ (cs : List Corner). PenLaws (whole (map upward cs)) (pos (Dx σ)) (pos (Dy σ))) (sym (some σ τ .cons)) (pen-of _ _ (pos (Dx σ)) (pos (Dy σ)) is-quarter)
+
+  pub few-of-pen : length (pen σ) ≤ 132
+  unfolding pen
+  few-of-pen = omega (arith, closed-few (around (map upward (quarter σ))), around-length (map upward (quarter σ)), length-map (quarter σ) upward, few-corners σ τ)
+    where
+      closed-few : (l : List Pt) → length (closed l) ≤ length l
+      closed-few [] = omega arith
+      closed-few (p ∷ l) = once-few p p l
