@@ -69,6 +69,13 @@ eqz-refl a = let e = le-iff a a .1 (le-refl a) in ap₂ _&&_ e e
 pub eq-iff : (a b : ℤ) → (eqZ a b ≡ true) ↔ (a ≡ b)
 eq-iff a b = (eqz a b, λ e. subst (λ (z : ℤ). eqZ a z ≡ true) e (eqz-refl a))
 
+pub not-eqz : (a b : ℤ) → ¬ (a ≡ b) → eqZ a b ≡ false
+not-eqz a b h = go (eqZ a b) refl
+  where
+    go : (t : Bool) → eqZ a b ≡ t → t ≡ false
+    go true e = absurd (h (eqz a b e))
+    go false e = refl
+
 -- ---- the greater and the smaller
 pub max-case : (a b : ℤ) → ((maxZ a b ≡ b) × (a ≼ b)) ⊎ ((maxZ a b ≡ a) × (b ≺ a))
 max-case a b = elim (lez a b) [ inl h ↦ inl (ap (λ (t : Bool). cond t b a) (h .0), h .1) | inr h ↦ inr (ap (λ (t : Bool). cond t b a) (h .0), h .1) ]

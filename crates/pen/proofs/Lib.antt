@@ -6,6 +6,7 @@
 --   Once, Images, Fits, Around, Whole       the whole polygon of a convex quarter satisfies the laws of a pen
 --   PenLaw                                  so does the pen of a setting
 --   Nearest, Rules                          the quarter is what document 01's steps put out
+--   Most, Halving, Stack, Laid, Mirrored    for the code: bounds of machine numbers, the search's loop, the stack, arrays of corners
 pub mod Limits
 pub mod Slope
 pub mod Naturals
@@ -26,6 +27,11 @@ pub mod Fits
 pub mod Around
 pub mod Whole
 pub mod PenLaw
+pub mod Most
 pub mod Nearest
 pub mod Rules
 pub mod Theorems
+pub mod Halving
+pub mod Stack
+pub mod Laid
+pub mod Walk

@@ -15,6 +15,7 @@ use Rattle.integers.proofs.Tests.{max-l, max-r, max-le, min-r}
 use Rattle.integers.proofs.Floor.{fdiv, fdiv-lo, fdiv-hi}
 use Rattle.pen.specs.declared.Setting.{Setting}
 use Rattle.pen.specs.Setting.{Taken}
+use Rattle.pen.proofs.Most.{norm-least}
 use Rattle.pen.specs.NearRoot.{norm}
 use Rattle.pen.specs.Cutting.{retained}
 use Rattle.pen.specs.Steps.{Retained}
@@ -68,17 +69,13 @@ module _ (a d m s : ℕ) (h : 1 ≤ m) where
           let small = below (pos a -ℤ pos d) (pos m) k (lt-pos h) (negative (pos a) (pos d) e) low in
           ap (λ (n : ℕ). pos n) (omega arith) ∙ max-zero (minZ (pos s) k) (le-trans (minZ (pos s) k) k (pos 0) (min-r (pos s) k) small)
 
-norm-some : (σ : Setting) → Taken σ → (u v : ℕ) → 1 ≤ u → 1 ≤ norm σ u v
-unfolding norm
-norm-some σ τ u v h = omega (arith, one-le-mul (one-le-mul (τ .q-low) (τ .q-low)) (one-le-mul h h))
-
 pub retained-ok : (σ : Setting) → Taken σ → (u v c x s : ℕ) → 1 ≤ u → Retained σ u v c x s (retained σ u v c x s)
 unfolding retained
 retained-ok σ τ u v c x s h =
     let a : ℕ = σ .p * σ .p * v * c in
     let d : ℕ = x * norm σ u v in
     let m : ℕ = u * norm σ u v in
-    let hm : 1 ≤ m = one-le-mul h (norm-some σ τ u v h) in
+    let hm : 1 ≤ m = one-le-mul h (norm-least τ v h) in
     record {
       k = k a d m s hm;
       low = nearest-low (pos a -ℤ pos d) (pos m) (k a d m s hm) (low a d m s hm);

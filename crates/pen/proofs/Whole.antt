@@ -1,5 +1,5 @@
 -- A convex quarter, mirrored in both axes, satisfies the laws of a pen.
-use mathlib.Core.Path.{_≡_, refl, sym, ap, subst}
+use mathlib.Core.Path.{_≡_, refl, sym, ap, subst, _∙_}
 use mathlib.Core.Logic.{_⊎_, inl, inr}
 use mathlib.Core.List.{List, [], _∷_, List·Memᴰ·head, List·Memᴰ·tail, List·Memᴰ·not-nil, Memᴰ·cast}
 use native.Mathlib.Omega.{arith}
@@ -9,9 +9,9 @@ use Rattle.integers.specs.Count.{_∈_}
 use Rattle.integers.proofs.Ring.{ring, reify}
 use Rattle.integers.proofs.Order.{le-trans}
 use Rattle.pen.specs.Polygon.{Pt, onceEach}
-use Rattle.pen.specs.Laws.{Side, edge, edges, PenLaws}
+use Rattle.pen.specs.Laws.{Side, edge, edges, reach, PenLaws}
 use Rattle.pen.proofs.Once.{Linked, linked-edge, Left, once-linked, once-sub, once-mem}
-use Rattle.pen.proofs.Images.{crossed, onwards, Image, is, isFlipped, isTurned, isCrossed, image-of, image-in, image-crossed, image-flipped}
+use Rattle.pen.proofs.Images.{neg-neg, crossed, onwards, Image, is, isFlipped, isTurned, isCrossed, image-of, image-in, image-crossed, image-flipped}
 use Rattle.pen.proofs.Fits.{Rises, Steps, Low, IsQuarter, Between, Fits, fits-inner}
 use Rattle.pen.proofs.Around.{all-linked}
 
@@ -77,6 +77,11 @@ module _ (c : Pt) (q : List Pt) (Dx Dy : ℤ) (Q : IsQuarter c q Dx Dy) where
       go z e (inr h) (inr k) = absurd (both-ends Dx (z .x) (c .x) (Q .wide₁) e (ap (λ (w : Pt). w .x) h) (ap (λ (w : Pt). w .x) k))
 
   -- the corners are the mirror images of the quarter's, and all of them
+  -- the first corner is the lowest
+  first-lowest : (w : List Pt) → Left (λ p r. Fits (c ∷ q) (edge p r)) c c w → c ∈ w → reach w ≡ Dy
+  first-lowest [] h m = absurd (List·Memᴰ·not-nil m)
+  first-lowest (p ∷ r) h m = ap (λ (z : Pt). negℤ (z .y)) (h .0) ∙ ap negℤ (Q .bottom) ∙ neg-neg Dy
+
   image : {w : Pt} → w ∈ ringOf c q → (z : Pt) × (z ∈ c ∷ q) × Image z w
   image m = image-of c q (once-sub c c (onwards c q) m)
 
@@ -101,6 +106,7 @@ module _ (c : Pt) (q : List Pt) (Dx Dy : ℤ) (Q : IsQuarter c q Dx Dy) where
         le-neg (w .y) (r .0 .y) Dy (within (r .0) w (Q .low (r .0) (r .1)) (r .2) .y-in .1) (Q .low (r .0) (r .1) .deep);
     rightmost = (let k = end-of (Rises (c ∷ q)) Dx c q (Q .steps) in (k .0, corner (k .1) (is refl), k .2));
     lowest = (c, first-in, Q .bottom);
+    reaches = first-lowest (ringOf c q) left first-in;
     somewide = Q .wide₁;
     somehigh = Q .high₁;
   }

@@ -2,7 +2,7 @@
 use Prim.Native.Nat.{ℕ, _-_}
 use mathlib.Core.Bool.{true, false}
 use mathlib.Core.List.{List, [], _∷_, _++_, map}
-use lib.ListN.{length, replicate}
+use lib.ListN.{length, replicate, take}
 use lib.IntN.{ℤ, pos}
 use Rattle.pen.specs.declared.Setting.{Setting}
 use Rattle.pen.specs.declared.Checked.{Checked}
@@ -11,11 +11,20 @@ use Rattle.pen.specs.declared.Quarter.{Quarter}
 use Rattle.pen.specs.declared.Pen.{Pen}
 use Rattle.pen.specs.declared.Built.{Built}
 use Rattle.pen.specs.Setting.{taken}
-use Rattle.pen.specs.Polygon.{Pt, pen}
+use Rattle.pen.specs.Polygon.{Pt, pt, pen}
 
 -- an array of n numbers that holds l from its start, and zeros after it
 abbrev pub laid : ℕ → List ℤ → List ℤ
 laid n l = l ++ replicate (n - length l) (pos 0)
+
+-- the points that the first n places of two arrays hold
+unfoldable pub points : List ℤ → List ℤ → List Pt
+points [] ys = []
+points (x ∷ xs) [] = []
+points (x ∷ xs) (y ∷ ys) = pt x y ∷ points xs ys
+
+abbrev pub corners : ℕ → List ℤ → List ℤ → List Pt
+corners n xs ys = points (take n xs) (take n ys)
 
 abbrev pub quarterOf : List Pt → Quarter
 quarterOf cs = record { count = length cs; x = laid 33 (map (λ z. z .x) cs); y = laid 33 (map (λ z. z .y) cs) }

@@ -120,6 +120,6 @@ corners σ (suc f) t = elim (step σ t) [
 ]
 
 -- "The quarter ends when no corner is left." The sum of l1 + l2 over all edges falls with each round, so its first value is rounds enough
--- (`quarter-puts` of proofs/Quarter: these are the corners that the steps put out with no count of rounds).
+-- (`quarter-puts` of proofs/Theorems: these are the corners that the steps put out with no count of rounds).
 unfoldable pub quarter : Setting → List Corner
 quarter σ = corners σ (2 * Dx σ + 2 * Dy σ) (first σ)

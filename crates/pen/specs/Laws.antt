@@ -32,6 +32,11 @@ unfoldable pub edges : List Pt → List Side
 edges [] = []
 edges (P ∷ l) = chain P P l
 
+-- how far up and down the pen reaches: as far as its first corner lies below the middle
+abbrev pub reach : List Pt → ℤ
+reach [] = pos 0
+reach (z ∷ l) = negℤ (z .y)
+
 pub record PenLaws (cs : List Pt) (Dx Dy : ℤ) : Type 0 where
   -- with a corner both its mirror images are corners; so it is equal to itself turned by half a turn
   pub mirrorX : (z : Pt) → z ∈ cs → pt (negℤ (z .x)) (z .y) ∈ cs
@@ -44,5 +49,6 @@ pub record PenLaws (cs : List Pt) (Dx Dy : ℤ) : Type 0 where
   pub high : (z : Pt) → z ∈ cs → z .y ≼ Dy
   pub rightmost : (z : Pt) × (z ∈ cs) × (z .x ≡ Dx)
   pub lowest : (z : Pt) × (z ∈ cs) × (z .y ≡ negℤ Dy)
+  pub reaches : reach cs ≡ Dy
   pub somewide : pos 1 ≼ Dx
   pub somehigh : pos 1 ≼ Dy

@@ -7,4 +7,6 @@ pub mod Polygon
 pub mod Laws
 pub mod Answer
 pub mod Moment
+pub mod Held
+pub mod Mirrored
 pub mod Theorems

@@ -19,7 +19,7 @@ pub record Taken (σ : Setting) : Type 0 where
 abbrev pub within : ℕ → ℕ → ℕ → Bool
 within x low high = leb low x && leb x high
 
--- the same as a test: `taken-iff` of proofs/Setting says so
+-- the same as a test: `taken-iff` of proofs/Limits says so
 unfoldable pub taken : Setting → Bool
 taken σ = within (σ .w) 16 512 && (within (σ .p) 1 16 && (within (σ .q) 1 16 && within (σ .w * σ .p) (16 * σ .q) (512 * σ .q)))
 

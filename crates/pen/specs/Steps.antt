@@ -1,5 +1,5 @@
 -- Document 01's steps 1 to 5 once more, as rules to hold against its words: no count of rounds, no search, and whole numbers of either sign.
--- The theorem `quarter-puts` (proofs/Quarter) says that `quarter` of Cutting is what these rules put out.
+-- The theorem `quarter-puts` (proofs/Theorems) says that `quarter` of Cutting is what these rules put out.
 use Prim.Native.Nat.{ℕ, suc, _+_, _*_, _≤_, _<_, min}
 use mathlib.Core.Path.{_≡_}
 use mathlib.Core.List.{List, [], _∷_}

@@ -1,9 +1,18 @@
 // The pen of a setting: the convex polygon of document 01, "Building the pen".
 //
-// The way of the data: a setting is checked (limits), the corners of the lower right quarter are
+// The way of the data: a setting is checked (settings), the corners of the lower right quarter are
 // cut one after the other (root, cut, corners), and the quarter is mirrored into the whole polygon
 // (polygon). What each function promises is cited from specs/.
 ghost use mathlib.Core.Path.{_≡_};
+ghost use Rattle.pen.specs.Answer.{built};
+
+mod corners;
+mod cut;
+mod polygon;
+mod root;
+mod settings;
+
+pub use settings::check;
 
 // Width w in sixteenths of a pixel, pixel aspect p/q.
 pub struct Setting {
@@ -56,4 +65,21 @@ pub struct Pen {
 pub struct Built {
     pub refusal: u64,
     pub pen: Pen,
+}
+
+// The pen of a width and an aspect, or refusal 1.
+pub fn build(w: u64, p: u64, q: u64) -> Built
+    ensures { λ r. ⌜ r ≡ built (record { w = w; p = p; q = q }) ⌝ }
+{
+    let Checked::Taken(s) = check(w, p, q) else {
+        return Built {
+            refusal: 1,
+            pen: polygon::none(),
+        };
+    };
+    let lower_right = corners::quarter(s);
+    Built {
+        refusal: 0,
+        pen: polygon::mirrored(lower_right),
+    }
 }

@@ -1,0 +1,201 @@
+-- The loop pushes the walk's corners one after the other, each with the next one, as `onceEach` does.
+use Rattle.pen.proofs.Walk.{walk-long}
+use Rattle.pen.proofs.Laid.{once, pushed-pen}
+use Rattle.pen.specs.Mirrored.{pointOf}
+use Rattle.integers.proofs.Machine.{known}
+use mir.Syntax.{w8}
+use mir.Val.{toZ, ofZ}
+use Rattle.integers.specs.Bound.{Abs}
+use Rattle.pen.specs.declared.polygon.Point.{Point}
+use mathlib.Core.List.{append-assoc}
+use native.Mathlib.Numerals.{add-one}
+use lib.Seq.{drop-cons}
+use Rattle.pen.specs.Mirrored.{origin, cornersOf, Mirrorable, pushed}
+use Rattle.pen.specs.Answer.{penOf}
+use Rattle.pen.specs.Polygon.{Pt, pt, same, around, onceEach, closed, whole}
+use Rattle.pen.specs.declared.Pen.{Pen}
+use Rattle.pen.specs.declared.Quarter.{Quarter}
+use lib.ListN.{length, getD, drop, length-append, drop-of-length-le}
+use mathlib.Core.Bool.{Bool, true, false, cond}
+use native.Mathlib.Omega.{arith}
+use mathlib.Core.List.{List, [], _∷_, _++_}
+use mathlib.Core.Path.{_≡_, refl, sym, ap, ap₂, subst, _∙_}
+use Prim.Native.Nat.{ℕ, suc, _+_, _*_, _-_, _≤_, _<_}
+use Rattle.pen.proofs.polygon.mirrored.Statement.{statement}
+use Rattle.pen.proofs.polygon.mirrored.Tie as tie
+use Rattle.pen.proofs.polygon.mirrored.Reads as reads
+use Rattle.pen.proofs.polygon.mirrored.Lts as lts
+use Rattle.pen.proofs.polygon.corner_at.Reads as corner-at-reads
+use Rattle.pen.proofs.polygon.none.Reads as none-reads
+use Rattle.pen.proofs.polygon.push.Reads as push-reads
+
+-- the corners pushed so far, and those that are still to come, make the whole polygon
+record Going (q : Quarter) (p : Pen) (i : ℕ) : Type 0 where
+  out : List Pt
+  few : length out < i
+  held : p ≡ penOf out
+  left : out ++ onceEach (getD (around (cornersOf q)) 0 origin) (getD (around (cornersOf q)) (i - 1) origin) (drop i (around (cornersOf q))) ≡ whole (cornersOf q)
+
+abbrev walk : Quarter → List Pt
+walk q = around (cornersOf q)
+
+-- before the first corner the whole walk is still to come
+begun : (q : Quarter) → Mirrorable q → {p : Pen} → p ≡ penOf [] → Going q p 1
+begun q m e = record { out = []; few = omega arith; held = e; left = first (walk q) (omega (arith, walk-long q m, m .some)) }
+  where
+    first : (l : List Pt) → 1 ≤ length l → onceEach (getD l 0 origin) (getD l 0 origin) (drop 1 l) ≡ closed l
+    first [] h = absurd (omega arith)
+    first (z ∷ l) h = refl
+
+room : {q : Quarter} {p : Pen} {i : ℕ} → Going q p i → i ≤ 132 → p .count < 132
+room g h = subst (λ (p : Pen). p .count < 132) (sym (g .held)) (omega (arith, g .few))
+
+once-few : (a b : Pt) → length (once a b) ≤ 1
+once-few a b = go (same a b)
+  where
+    go : (t : Bool) → length (cond t [] (a ∷ [])) ≤ 1
+    go true = omega arith
+    go false = omega arith
+
+once-cons : (f p r : Pt) (l : List Pt) → onceEach f p (r ∷ l) ≡ once p r ++ onceEach f r l
+unfolding onceEach
+once-cons f p r l = go (same p r)
+  where
+    go : (t : Bool) → cond t (onceEach f r l) (p ∷ onceEach f r l) ≡ cond t [] (p ∷ []) ++ onceEach f r l
+    go true = refl
+    go false = refl
+
+-- one corner further
+further : (q : Quarter) → Mirrorable q → {p p′ : Pen} {i : ℕ} → Going q p i → 1 ≤ i → i < 4 * q .count →
+    p′ ≡ pushed p (getD (walk q) (i - 1) origin) (getD (walk q) i origin) → Going q p′ (i + 1)
+further q m {p} {p′} {i} g h l e =
+    let a = getD (walk q) (i - 1) origin in
+    let b = getD (walk q) i origin in
+    let f = getD (walk q) 0 origin in
+    let d : i + 1 - 1 ≡ i = omega arith in
+    record {
+      out = g .out ++ once a b;
+      few = omega (arith, length-append (g .out) (once a b), once-few a b, g .few);
+      held = e ∙ ap (λ (p : Pen). pushed p a b) (g .held) ∙ pushed-pen (g .out) a b (omega (arith, g .few, m .few));
+      left = rw (d, add-one) (append-assoc (g .out) (once a b) (onceEach f b (drop (suc i) (walk q)))
+          ∙ ap (λ (l : List Pt). g .out ++ l) (sym (once-cons f a b (drop (suc i) (walk q))) ∙ ap (onceEach f a) (sym (drop-cons (walk q) i origin (omega (arith, walk-long q m)))))
+          ∙ g .left);
+    }
+
+-- the last corner goes with the first
+closing : (q : Quarter) → Mirrorable q → {p p′ : Pen} {i : ℕ} → Going q p i → i ≡ 4 * q .count → p′ ≡ pushed p (getD (walk q) (4 * q .count - 1) origin) (getD (walk q) 0 origin) →
+    p′ ≡ penOf (whole (cornersOf q))
+unfolding onceEach
+closing q m {p} {p′} {i} g n e =
+    let a = getD (walk q) (i - 1) origin in
+    let f = getD (walk q) 0 origin in
+    let none : drop i (walk q) ≡ [] = drop-of-length-le (walk q) {i = i} (omega (arith, walk-long q m)) in
+    let e′ = subst (λ (k : ℕ). p′ ≡ pushed p (getD (walk q) (k - 1) origin) f) (sym n) e in
+    e′ ∙ ap (λ (p : Pen). pushed p a f) (g .held) ∙ pushed-pen (g .out) a f (omega (arith, g .few, m .few))
+    ∙ ap penOf (ap (λ (l : List Pt). g .out ++ onceEach f a l) (sym none) ∙ g .left)
+
+abbrev Inv-loop : tie.InvT-loop
+Inv-loop q n p₀ i₀ p i = Mirrorable q × (n ≡ q .count) × (1 ≤ i) × (i ≤ 4 * n) × Going q p i
+
+abbrev μ-loop : tie.MeasureT-loop
+μ-loop q n p₀ i₀ p i = 4 * n - i
+
+-- a corner that `corner_at` answered, as it is handed on
+point : {r : Point} {z : Pt} → (pointOf r ≡ z) × (Abs (r .x) 32 × Abs (r .y) 32) → pt (toZ w8 (ofZ w8 (r .x))) (toZ w8 (ofZ w8 (r .y))) ≡ z
+point h = ap₂ pt (known {w = w8} (h .1 .0) tt .reads) (known {w = w8} (h .1 .1) tt .reads) ∙ h .0
+
+-- src/polygon.rt:89:9
+none-requires : tie.Need-none-requires Inv-loop μ-loop
+none-requires c κs = tt
+
+-- src/polygon.rt:91:5
+loop-holds : tie.Need-loop-holds Inv-loop μ-loop
+loop-holds c = let m = c .before .pre in (m, refl, omega arith, omega (arith, m .some), begun (c .before .args .q) m (c .none .ensures))
+
+-- src/polygon.rt:91:15
+mul-loop : tie.Need-mul-loop Inv-loop μ-loop
+mul-loop c = record { fits = omega (arith, c .loop .inv .0 .few) }
+
+-- src/polygon.rt:92:30
+sub-corner-at : tie.Need-sub-corner-at Inv-loop μ-loop
+sub-corner-at c = c .before .loop .inv .2
+
+-- src/polygon.rt:92:13
+corner-at-requires : tie.Need-corner-at-requires Inv-loop μ-loop
+corner-at-requires c κs = (c .before .loop .inv .0, omega (arith, c .loop-test .taken, c .before .loop .inv .2))
+
+-- src/polygon.rt:93:13
+corner-at-requires-2 : tie.Need-corner-at-requires-2 Inv-loop μ-loop
+corner-at-requires-2 c κs = (c .before .before .loop .inv .0, c .before .loop-test .taken)
+
+-- src/polygon.rt:94:9
+push-requires : tie.Need-push-requires Inv-loop μ-loop
+push-requires c κs = let i = c .before .before .before .before .before .before .before .loop .inv in room (i .4) (omega (arith, i .0 .few, c .before .before .before .before .before .before .loop-test .taken))
+
+-- src/polygon.rt:95:9
+add-i : tie.Need-add-i Inv-loop μ-loop
+add-i c = let i = c .before .before .before .before .before .before .before .before .loop .inv in record { fits = omega (arith, i .0 .few, c .before .before .before .before .before .before .before .loop-test .taken) }
+
+-- src/polygon.rt:91:5
+loop-less : tie.Need-loop-less Inv-loop μ-loop
+loop-less c = omega (arith, c .before .before .before .before .before .before .before .loop-test .taken)
+
+-- src/polygon.rt:91:5
+loop-again : tie.Need-loop-again Inv-loop μ-loop
+loop-again c =
+    let i = c .before .before .before .before .before .before .before .before .loop .inv in
+    let t = c .before .before .before .before .before .before .before .loop-test .taken in
+    let a = c .before .before .before .before .before .before .corner-at .ensures in
+    let b = c .before .before .before .before .before .corner-at2 .ensures in
+    (i .0, refl, omega arith, omega (arith, t), further (c .before .before .before .before .before .before .before .before .before .before .args .q) (i .0) (i .4) (i .2) t (c .push .ensures ∙ ap₂ (pushed (c .before .before .before .before .before .before .before .before .loop .p)) (point a) (point b)))
+
+-- src/polygon.rt:97:26
+mul-corner-at : tie.Need-mul-corner-at Inv-loop μ-loop
+mul-corner-at c = record { fits = omega (arith, c .before .loop .inv .0 .few) }
+
+-- src/polygon.rt:97:26
+sub-corner-at-2 : tie.Need-sub-corner-at-2 Inv-loop μ-loop
+sub-corner-at-2 c = omega (arith, c .before .loop .inv .0 .some)
+
+-- src/polygon.rt:97:9
+corner-at-requires-3 : tie.Need-corner-at-requires-3 Inv-loop μ-loop
+corner-at-requires-3 c κs = (c .before .loop .inv .0, omega (arith, c .before .loop .inv .0 .some))
+
+-- src/polygon.rt:98:9
+corner-at-requires-4 : tie.Need-corner-at-requires-4 Inv-loop μ-loop
+corner-at-requires-4 c κs = (c .before .before .loop .inv .0, omega (arith, c .before .before .loop .inv .0 .some))
+
+-- src/polygon.rt:99:5
+push-requires-2 : tie.Need-push-requires-2 Inv-loop μ-loop
+push-requires-2 c κs = let i = c .before .before .before .before .before .before .before .loop .inv in room (i .4) (omega (arith, i .0 .few, i .3))
+
+-- src/polygon.rt:84:1
+returns : tie.Need-returns Inv-loop μ-loop
+returns c =
+    let i = c .before .before .before .before .before .before .before .before .loop .inv in
+    let a = c .before .before .before .before .before .before .corner-at3 .ensures in
+    let b = c .before .before .before .before .before .corner-at4 .ensures in
+    closing (c .before .before .before .before .before .before .before .before .before .before .args .q) (i .0) (i .4) (omega (arith, i .3, c .before .before .before .before .before .before .before .loop-test .left)) (c .push2 .ensures ∙ ap₂ (pushed (c .before .before .before .before .before .before .before .before .loop .p)) (point a) (point b))
+
+pub mirrored-spec : {M : Type 1} → statement M
+mirrored-spec =
+    tie.close
+    (tie.spec
+    Inv-loop
+    μ-loop
+    none-requires
+    loop-holds
+    mul-loop
+    sub-corner-at
+    corner-at-requires
+    corner-at-requires-2
+    push-requires
+    add-i
+    loop-less
+    loop-again
+    mul-corner-at
+    sub-corner-at-2
+    corner-at-requires-3
+    corner-at-requires-4
+    push-requires-2
+    returns)

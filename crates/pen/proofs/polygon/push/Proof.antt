@@ -1,0 +1,61 @@
+-- The two answers are the two cases of the definition.
+use Prim.Native.Nat.{_+_}
+use lib.ListN.{set}
+use Rattle.pen.specs.Mirrored.{pushed}
+use Rattle.pen.specs.Polygon.{Pt}
+use Rattle.pen.specs.declared.Pen.{Pen}
+use Rattle.pen.specs.Polygon.{pt, same}
+use Rattle.integers.proofs.Machine.{par}
+use mir.Syntax.{w8}
+use mathlib.Core.Bool.{Bool, true, false, cond}
+use mathlib.Core.Path.{_≡_, refl, sym, ap, ap₂, _∙_}
+use borrow.Author.Needs.{needs}
+use Rattle.pen.proofs.polygon.push.Statement.{statement}
+use Rattle.pen.proofs.polygon.push.Tie as tie
+use Rattle.pen.proofs.polygon.push.Reads as reads
+use Rattle.pen.proofs.polygon.push.Lts as lts
+use Rattle.pen.proofs.polygon.equal.Reads as equal-reads
+
+skipped : (p : Pen) (a b : Pt) → same a b ≡ true → p ≡ pushed p a b
+skipped p a b e = sym (ap (λ (t : Bool). cond t p (record { count = p .count + 1; x = set (p .x) (p .count) (a .x); y = set (p .y) (p .count) (a .y) })) e)
+
+added : (p : Pen) (a b : Pt) → same a b ≡ false → record { count = p .count + 1; x = set (p .x) (p .count) (a .x); y = set (p .y) (p .count) (a .y) } ≡ pushed p a b
+added p a b e = sym (ap (λ (t : Bool). cond t p (record { count = p .count + 1; x = set (p .x) (p .count) (a .x); y = set (p .y) (p .count) (a .y) })) e)
+
+-- what `equal` answered, of the numbers themselves
+told : (c : tie.After-equal) → c .equal .result ≡ same (pt (c .before .args .ax) (c .before .args .ay)) (pt (c .before .args .bx) (c .before .args .by))
+told c =
+    let f = c .before .fits in
+    c .equal .ensures ∙ ap₂ same (ap₂ pt (par {w = w8} (f .ax) .reads) (par {w = w8} (f .ay) .reads)) (ap₂ pt (par {w = w8} (f .bx) .reads) (par {w = w8} (f .by) .reads))
+
+-- src/polygon.rt:73:8
+equal-requires : tie.Need-equal-requires
+equal-requires c κs = search needs
+
+-- src/polygon.rt:74:9
+returns : tie.Need-returns
+returns c = let a = c .before .before .args in skipped (a .p) (pt (a .ax) (a .ay)) (pt (a .bx) (a .by)) (sym (told (c .before)) ∙ c .if1 .taken)
+
+-- src/polygon.rt:78:5
+element-set-from-ax : tie.Need-element-set-from-ax
+element-set-from-ax c = search needs
+
+-- src/polygon.rt:79:5
+element-set-from-ay : tie.Need-element-set-from-ay
+element-set-from-ay c = search needs
+
+-- src/polygon.rt:80:15
+add-r : tie.Need-add-r
+add-r c = search needs
+
+-- src/polygon.rt:69:1
+returns-2 : tie.Need-returns-2
+returns-2 c =
+    let f = c .before .before .fits in
+    let a = c .before .before .args in
+    rw (par {w = w8} (f .ax) .reads, par {w = w8} (f .ay) .reads) (added (a .p) (pt (a .ax) (a .ay)) (pt (a .bx) (a .by)) (sym (told (c .before)) ∙ c .if1 .left))
+
+pub push-spec : {M : Type 1} → statement M
+push-spec =
+    tie.close
+    (tie.spec equal-requires returns element-set-from-ax element-set-from-ay add-r returns-2)

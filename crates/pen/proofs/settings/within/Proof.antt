@@ -1,0 +1,15 @@
+-- `within` is the test of its two orders.
+use borrow.Author.Tests.{le-leb, lt-leb}
+use Rattle.pen.proofs.settings.within.Statement.{statement}
+use Rattle.pen.proofs.settings.within.Tie as tie
+use Rattle.pen.proofs.settings.within.Reads as reads
+use Rattle.pen.proofs.settings.within.Lts as lts
+
+returns : tie.Need-returns
+returns c = simp (le-leb _ _ (c .if1 .taken))
+
+returns-2 : tie.Need-returns-2
+returns-2 c = simp (lt-leb _ _ (c .if1 .left))
+
+pub within-spec : {M : Type 1} → statement M
+within-spec = tie.close (tie.spec returns returns-2)

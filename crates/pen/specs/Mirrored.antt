@@ -1,0 +1,35 @@
+-- What the code's arrays hold on the way to the whole polygon; inside the crate only.
+use Prim.Native.Nat.{ℕ, _+_, _≤_, _<_}
+use mathlib.Core.Path.{_≡_}
+use mathlib.Core.Bool.{cond}
+use mathlib.Core.List.{List, [], _∷_}
+use lib.ListN.{length, take, set, getD}
+use lib.IntN.{ℤ, pos}
+use Rattle.integers.specs.Bound.{Abs}
+use Rattle.pen.specs.declared.Quarter.{Quarter}
+use Rattle.pen.specs.declared.Pen.{Pen}
+use Rattle.pen.specs.declared.polygon.Point.{Point}
+use Rattle.pen.specs.Polygon.{Pt, pt, same}
+use Rattle.pen.specs.Answer.{corners}
+
+abbrev pub origin : Pt
+origin = pt (pos 0) (pos 0)
+
+abbrev pub pointOf : Point → Pt
+pointOf p = pt (p .x) (p .y)
+
+abbrev pub cornersOf : Quarter → List Pt
+cornersOf q = corners (q .count) (q .x) (q .y)
+
+-- there is a corner, all lie in the arrays, and each has an opposite
+pub record Mirrorable (q : Quarter) : Type 0 where
+  pub some : 1 ≤ q .count
+  pub few : q .count ≤ 33
+  pub x-long : length (q .x) ≡ 33
+  pub y-long : length (q .y) ≡ 33
+  pub x-small : (i : ℕ) → i < q .count → Abs (getD (q .x) i (pos 0)) 32
+  pub y-small : (i : ℕ) → i < q .count → Abs (getD (q .y) i (pos 0)) 32
+
+-- a corner more, unless the next one is equal
+abbrev pub pushed : Pen → Pt → Pt → Pen
+pushed p a b = cond (same a b) p (record { count = p .count + 1; x = set (p .x) (p .count) (a .x); y = set (p .y) (p .count) (a .y) })

@@ -1,0 +1,101 @@
+// The whole polygon: the quarter and its mirror images in both axes, equal corners once.
+use crate::Pen;
+use crate::Quarter;
+ghost use mathlib.Core.Path.{_≡_};
+ghost use mathlib.Core.List.{[]};
+ghost use Prim.Native.Nat.{_*_, _<_};
+ghost use lib.ListN.{getD};
+ghost use Rattle.integers.specs.Bound.{Abs};
+ghost use Rattle.pen.specs.Polygon.{pt, same, around, whole};
+ghost use Rattle.pen.specs.Answer.{penOf};
+ghost use Rattle.pen.specs.Mirrored.{Mirrorable, cornersOf, pointOf, pushed, origin};
+
+// A corner in half pixels, y upwards.
+pub struct Point {
+    pub x: i8,
+    pub y: i8,
+}
+
+pub fn none() -> Pen
+    ensures { λ r. ⌜ r ≡ penOf [] ⌝ }
+{
+    Pen {
+        count: 0,
+        x: [0; 132],
+        y: [0; 132],
+    }
+}
+
+// Corner i of the walk around the polygon: up the quarter, back along its mirror image in the x
+// axis, and the same turned by half a turn.
+fn corner_at(q: Quarter, i: usize) -> Point
+    requires { ⌜ Mirrorable q ⌝ ∗ ⌜ i < 4 * q .count ⌝ }
+    ensures { λ r. ⌜ pointOf r ≡ getD (around (cornersOf q)) i origin ⌝ ∗ ⌜ Abs (r .x) 32 × Abs (r .y) 32 ⌝ }
+{
+    let n = q.count;
+    if i < n {
+        return Point {
+            x: q.x[i],
+            y: q.y[i],
+        };
+    }
+    if i < 2 * n {
+        let k = 2 * n - 1 - i;
+        return Point {
+            x: q.x[k],
+            y: -q.y[k],
+        };
+    }
+    if i < 3 * n {
+        let k = i - 2 * n;
+        return Point {
+            x: -q.x[k],
+            y: -q.y[k],
+        };
+    }
+    let k = 4 * n - 1 - i;
+    Point {
+        x: -q.x[k],
+        y: q.y[k],
+    }
+}
+
+fn equal(ax: i8, ay: i8, bx: i8, by: i8) -> bool
+    ensures { λ r. ⌜ r ≡ same (pt ax ay) (pt bx by) ⌝ }
+{
+    ax == bx && ay == by
+}
+
+// The pen with the corner (ax, ay) more, unless the next corner (bx, by) is equal.
+fn push(p: Pen, ax: i8, ay: i8, bx: i8, by: i8) -> Pen
+    requires { ⌜ p .count < 132 ⌝ }
+    ensures { λ r. ⌜ r ≡ pushed p (pt ax ay) (pt bx by) ⌝ }
+{
+    if equal(ax, ay, bx, by) {
+        return p;
+    }
+    let n = p.count;
+    let mut r = p;
+    r.x[n] = ax;
+    r.y[n] = ay;
+    r.count = n + 1;
+    r
+}
+
+pub fn mirrored(q: Quarter) -> Pen
+    requires { ⌜ Mirrorable q ⌝ }
+    ensures { λ r. ⌜ r ≡ penOf (whole (cornersOf q)) ⌝ }
+{
+    let n = q.count;
+    let mut p = none();
+    let mut i = 1;
+    while i < 4 * n {
+        let a = corner_at(q, i - 1);
+        let b = corner_at(q, i);
+        p = push(p, a.x, a.y, b.x, b.y);
+        i += 1;
+    }
+    let a = corner_at(q, 4 * n - 1);
+    let b = corner_at(q, 0);
+    push(p, a.x, a.y, b.x, b.y)
+}
