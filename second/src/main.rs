@@ -1,6 +1,7 @@
 //! The second program: a literal, slow reading of document 01, to compare the
 //! drawer with. See README.md for the commands and their byte streams.
 
+mod paper;
 mod pen;
 mod pens;
 mod setting;
@@ -9,7 +10,7 @@ mod stream;
 use std::io::{Read, Write};
 use std::process::ExitCode;
 
-const USAGE: &str = "usage: second settings | pens | compare-pens SETTINGS ANSWERS";
+const USAGE: &str = "usage: second settings | pens | compare-pens SETTINGS ANSWERS | paper-differs";
 
 fn main() -> ExitCode {
     let arguments: Vec<String> = std::env::args().skip(1).collect();
@@ -26,6 +27,7 @@ fn main() -> ExitCode {
 fn run(words: &[&str]) -> Result<(), String> {
     match words {
         ["settings"] => put(&stream::to_bytes(&stream::all_settings())),
+        ["paper-differs"] => put(paper::report().as_bytes()),
         ["pens"] => put(&pens::answers(&input()?)?),
         ["compare-pens", settings, answers] => {
             say(pens::compare(&file(settings)?, &file(answers)?))
