@@ -204,7 +204,7 @@ mod tests {
     #[test]
     fn the_listing_keeps_tops() {
         let mut different = 0;
-        for record in falls(1_000) {
+        for record in falls(2_000) {
             let quarter = pen::quarter(&record.setting).unwrap();
             let point = |z: (i32, i32)| (z.0 as i64, z.1 as i64);
             let theirs = do_fall(&quarter, point(record.a), point(record.b));
