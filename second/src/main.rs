@@ -1,0 +1,142 @@
+//! The second program: a literal, slow reading of document 01, to compare the
+//! drawer with. See README.md for the commands and their byte streams.
+
+mod extent;
+mod paper;
+mod paper_rows;
+mod pbm;
+mod pen;
+mod pens;
+mod row;
+mod segments;
+mod setting;
+mod stream;
+mod sweep;
+
+use setting::Setting;
+use std::io::{Read, Write};
+use std::process::ExitCode;
+
+const USAGE: &str = "usage: second COMMAND
+  settings
+  pens
+  compare-pens SETTINGS ANSWERS
+  paper-differs
+  random-segments N SEED
+  extents
+  compare-extents RECORDS ANSWERS
+  row COLUMNS ROWS ROW ROOM W P Q X Y [X Y ...]
+  pbm COLUMNS ROWS W P Q X Y [X Y ...] [/ W P Q X Y ...]";
+
+fn main() -> ExitCode {
+    let arguments: Vec<String> = std::env::args().skip(1).collect();
+    let words: Vec<&str> = arguments.iter().map(String::as_str).collect();
+    match run(&words) {
+        Ok(()) => ExitCode::SUCCESS,
+        Err(complaint) => {
+            eprintln!("{complaint}");
+            ExitCode::FAILURE
+        }
+    }
+}
+
+fn run(words: &[&str]) -> Result<(), String> {
+    match words {
+        ["settings"] => put(&stream::to_bytes(&stream::all_settings())),
+        ["pens"] => put(&pens::answers(&input()?)?),
+        ["compare-pens", settings, answers] => {
+            say(pens::compare(&file(settings)?, &file(answers)?))
+        }
+        ["paper-differs"] => put((paper::report() + &paper_rows::report()).as_bytes()),
+        ["random-segments", count, seed] => {
+            let records = segments::random_segments(number(count)?, number(seed)?);
+            put(&extent::to_bytes(&records))
+        }
+        ["extents"] => put(&extent::answers(&input()?)?),
+        ["compare-extents", records, answers] => {
+            say(extent::compare(&file(records)?, &file(answers)?))
+        }
+        ["row", columns, rows, row, room, stroke_words @ ..] => {
+            let stroke = stroke(stroke_words)?;
+            let request = row::Request {
+                setting: stroke.setting,
+                path: &stroke.path,
+                columns: number(columns)?,
+                rows: number(rows)?,
+                row: number(row)?,
+            };
+            let mut list = vec![0; 4 * number::<usize>(room)?];
+            let answer = row::row_answer(&request, &mut list);
+            let runs: Vec<String> = row::records(&list, answer.runs)
+                .iter()
+                .map(|(left, right)| format!(" {left}..{right}"))
+                .collect();
+            let line = format!(
+                "{} {} {}{}",
+                answer.refusal,
+                answer.place,
+                answer.runs,
+                runs.concat()
+            );
+            put(format!("{line}\n").as_bytes())
+        }
+        ["pbm", columns, rows, strokes @ ..] => {
+            let strokes: Vec<pbm::Stroke> = strokes
+                .split(|&word| word == "/")
+                .map(stroke)
+                .collect::<Result<_, _>>()?;
+            let file = pbm::file(&strokes, number(columns)?, number(rows)?);
+            put(&file.map_err(|(refusal, place)| format!("refusal {refusal}, place {place}"))?)
+        }
+        _ => Err(USAGE.to_string()),
+    }
+}
+
+/// A setting and a path in words: W P Q X Y ...
+fn stroke(words: &[&str]) -> Result<pbm::Stroke, String> {
+    let [w, p, q, path @ ..] = words else {
+        return Err(USAGE.to_string());
+    };
+    let path: Vec<i32> = path
+        .iter()
+        .map(|word| number(word))
+        .collect::<Result<_, _>>()?;
+    Ok(pbm::Stroke {
+        setting: Setting::new(number(w)?, number(p)?, number(q)?),
+        path: row::path_bytes(&path),
+    })
+}
+
+fn number<N: std::str::FromStr>(word: &str) -> Result<N, String> {
+    word.parse()
+        .map_err(|_| format!("{word} is no number that fits here"))
+}
+
+/// A comparison speaks on stdout, whether it agrees or not.
+fn say(outcome: Result<String, String>) -> Result<(), String> {
+    match outcome {
+        Ok(line) => put(format!("{line}\n").as_bytes()),
+        Err(line) => {
+            put(format!("{line}\n").as_bytes())?;
+            Err("different".to_string())
+        }
+    }
+}
+
+fn input() -> Result<Vec<u8>, String> {
+    let mut bytes = Vec::new();
+    std::io::stdin()
+        .read_to_end(&mut bytes)
+        .map_err(|e| format!("stdin: {e}"))?;
+    Ok(bytes)
+}
+
+fn file(name: &str) -> Result<Vec<u8>, String> {
+    std::fs::read(name).map_err(|e| format!("{name}: {e}"))
+}
+
+fn put(bytes: &[u8]) -> Result<(), String> {
+    std::io::stdout()
+        .write_all(bytes)
+        .map_err(|e| format!("stdout: {e}"))
+}
