@@ -20,6 +20,20 @@ use Rattle.integers.proofs.Order.{le-or-lt, le-refl, le-antisymm, lt-le
 pub clash : {t : Bool} → t ≡ true → t ≡ false → ⊥
 clash p q = subst T (sym p ∙ q) tt
 
+-- a conjunction whose first part is known, and one that both parts pass or one fails
+pub true-and : (a b : Bool) → a ≡ true → b ≡ (a && b)
+true-and a b e = subst (λ (t : Bool). b ≡ (t && b)) (sym e) refl
+
+pub false-and : (a b : Bool) → a ≡ false → false ≡ (a && b)
+false-and a b e = subst (λ (t : Bool). false ≡ (t && b)) (sym e) refl
+
+pub and-false : (a b : Bool) → b ≡ false → (a && b) ≡ false
+and-false true b e = e
+and-false false b e = refl
+
+pub and-true : (a b : Bool) → a ≡ true → b ≡ true → (a && b) ≡ true
+and-true a b e f = sym (true-and a b e) ∙ f
+
 pub and-both : (a b : Bool) → (a && b) ≡ true → (a ≡ true) × (b ≡ true)
 and-both true b e = (refl, e)
 and-both false b e = absurd (clash e refl)

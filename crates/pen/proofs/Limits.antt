@@ -1,25 +1,21 @@
 -- A setting within the limits: the test and the record say the same, and the pen of such a setting is 1 to 32 pixels wide and high.
 use Prim.Native.Nat.{ℕ, _+_, _*_, _≤_}
-use mathlib.Core.Path.{_≡_, sym, subst}
+use mathlib.Core.Path.{_≡_}
 use mathlib.Core.Logic.{_↔_}
 use mathlib.Core.Bool.{Bool, true, _&&_}
 use native.Mathlib.Nat.{le-div-iff-mul-le, div-lt-iff-lt-mul}
 use native.Mathlib.Omega.{arith}
 use borrow.Author.Tests.{leb-true, le-leb}
 use lib.Dec.{leb}
-use Rattle.integers.proofs.Tests.{and-both}
+use Rattle.integers.proofs.Tests.{and-both, and-true}
 use Rattle.pen.specs.declared.Setting.{Setting}
 use Rattle.pen.specs.Setting.{Taken, taken, within, Dx, Dy}
-
--- two tests that are both passed
-pass : (a b : Bool) → a ≡ true → b ≡ true → (a && b) ≡ true
-pass a b e f = subst (λ (c : Bool). (c && b) ≡ true) (sym e) f
 
 -- what a test of two limits says
 pub within-iff : (x low high : ℕ) → (within x low high ≡ true) ↔ ((low ≤ x) × (x ≤ high))
 within-iff x low high = (
   (λ e. let b = and-both _ _ e in (leb-true low x (b .0), leb-true x high (b .1))),
-  λ h. pass (leb low x) (leb x high) (le-leb low x (h .0)) (le-leb x high (h .1)),
+  λ h. and-true (leb low x) (leb x high) (le-leb low x (h .0)) (le-leb x high (h .1)),
 )
 
 -- the parts of the test of a setting
@@ -37,7 +33,7 @@ A σ = within (σ .w * σ .p) (16 * σ .q) (512 * σ .q)
 
 pub passes : (σ : Setting) → W σ ≡ true → P σ ≡ true → Q σ ≡ true → A σ ≡ true → taken σ ≡ true
 unfolding taken
-passes σ w p q a = pass (W σ) (P σ && (Q σ && A σ)) w (pass (P σ) (Q σ && A σ) p (pass (Q σ) (A σ) q a))
+passes σ w p q a = and-true (W σ) (P σ && (Q σ && A σ)) w (and-true (P σ) (Q σ && A σ) p (and-true (Q σ) (A σ) q a))
 
 pub taken-iff : (σ : Setting) → (taken σ ≡ true) ↔ Taken σ
 unfolding taken

@@ -32,6 +32,10 @@ quarterOf cs = record { count = length cs; x = laid 33 (map (λ z. z .x) cs); y 
 abbrev pub penOf : List Pt → Pen
 penOf cs = record { count = length cs; x = laid 132 (map (λ z. z .x) cs); y = laid 132 (map (λ z. z .y) cs) }
 
+-- the corners that a pen's arrays hold, whatever they are
+abbrev pub penCorners : Pen → List Pt
+penCorners p = corners (p .count) (p .x) (p .y)
+
 -- refusal 1: "setting outside the limits above"
 unfoldable pub checked : Setting → Checked
 checked σ = elim (taken σ) [ true ↦ checked·.Taken σ | false ↦ checked·.Refused ]

@@ -1,4 +1,5 @@
 -- Two numbers are equal where their bits are.
+use Rattle.integers.proofs.Tests.{true-and, false-and}
 use Rattle.integers.proofs.Machine.{par, eqZ-at}
 use borrow.Author.Tests.{eq-eqb, ne-eqb}
 use mathlib.Core.Bool.{Bool, true, false, _&&_}
@@ -8,24 +9,17 @@ use Rattle.pen.proofs.polygon.equal.Tie as tie
 use Rattle.pen.proofs.polygon.equal.Reads as reads
 use Rattle.pen.proofs.polygon.equal.Lts as lts
 
-with-true : (a b : Bool) → a ≡ true → b ≡ (a && b)
-with-true a b e = subst (λ (t : Bool). b ≡ (t && b)) (sym e) refl
-
-with-false : (a b : Bool) → a ≡ false → false ≡ (a && b)
-with-false a b e = subst (λ (t : Bool). false ≡ (t && b)) (sym e) refl
-
--- src/polygon.rt:62:1
 returns : tie.Need-returns
 returns c =
     let f = c .before .fits in
-    eqZ-at (par (f .ay)) (par (f .by)) ∙ with-true _ _ (sym (eqZ-at (par (f .ax)) (par (f .bx))) ∙ eq-eqb _ _ (c .if1 .taken))
+    eqZ-at (par (f .ay)) (par (f .by)) ∙ true-and _ _ (sym (eqZ-at (par (f .ax)) (par (f .bx))) ∙ eq-eqb _ _ (c .if1 .taken))
 
 -- src/polygon.rt:62:1
 returns-2 : tie.Need-returns-2
 returns-2 c =
     let f = c .before .fits in
     let e = ne-eqb _ _ (c .if1 .left) in
-    e ∙ with-false _ _ (sym (eqZ-at (par (f .ax)) (par (f .bx))) ∙ e)
+    e ∙ false-and _ _ (sym (eqZ-at (par (f .ax)) (par (f .bx))) ∙ e)
 
 pub equal-spec : {M : Type 1} → statement M
 equal-spec = tie.close (tie.spec returns returns-2)

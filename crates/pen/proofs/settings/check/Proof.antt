@@ -7,6 +7,7 @@ use native.Mathlib.Omega.{arith}
 use native.Mathlib.Nat.{mul-le-mul}
 use borrow.Author.Needs.{needs}
 use borrow.Author.Tests.{not-true, not-false}
+use Rattle.integers.proofs.Tests.{and-false, false-and}
 use Rattle.pen.specs.declared.Setting.{Setting}
 use Rattle.pen.specs.declared.Checked.{Checked}
 use Rattle.pen.specs.declared.Checked.the-variants.{Refused, Taken}
@@ -24,29 +25,21 @@ accepted : (σ : Setting) → taken σ ≡ true → Taken σ ≡ checked σ
 unfolding checked
 accepted σ e = rw (e, checked)
 
--- a test that fails, or that all pass
-first-fails : (a b : Bool) → a ≡ false → (a && b) ≡ false
-first-fails a b e = subst (λ (t : Bool). (t && b) ≡ false) (sym e) refl
-
-second-fails : (a b : Bool) → b ≡ false → (a && b) ≡ false
-second-fails true b e = e
-second-fails false b e = refl
-
 fails-w : (σ : Setting) → W σ ≡ false → taken σ ≡ false
 unfolding taken
-fails-w σ e = first-fails (W σ) (P σ && (Q σ && A σ)) e
+fails-w σ e = sym (false-and (W σ) (P σ && (Q σ && A σ)) e)
 
 fails-p : (σ : Setting) → P σ ≡ false → taken σ ≡ false
 unfolding taken
-fails-p σ e = second-fails (W σ) (P σ && (Q σ && A σ)) (first-fails (P σ) (Q σ && A σ) e)
+fails-p σ e = and-false (W σ) (P σ && (Q σ && A σ)) (sym (false-and (P σ) (Q σ && A σ) e))
 
 fails-q : (σ : Setting) → Q σ ≡ false → taken σ ≡ false
 unfolding taken
-fails-q σ e = second-fails (W σ) (P σ && (Q σ && A σ)) (second-fails (P σ) (Q σ && A σ) (first-fails (Q σ) (A σ) e))
+fails-q σ e = and-false (W σ) (P σ && (Q σ && A σ)) (and-false (P σ) (Q σ && A σ) (sym (false-and (Q σ) (A σ) e)))
 
 fails-a : (σ : Setting) → A σ ≡ false → taken σ ≡ false
 unfolding taken
-fails-a σ e = second-fails (W σ) (P σ && (Q σ && A σ)) (second-fails (P σ) (Q σ && A σ) (second-fails (Q σ) (A σ) e))
+fails-a σ e = and-false (W σ) (P σ && (Q σ && A σ)) (and-false (P σ) (Q σ && A σ) (and-false (Q σ) (A σ) e))
 
 abbrev setting : tie.Start → Setting
 setting c = record { w = c .args .w; p = c .args .p; q = c .args .q }

@@ -1,0 +1,18 @@
+-- The claims of specs/Theorems.antt, each under its name there.
+use Rattle.stroke.specs.Theorems.{KeptHas, SweepSides, BlackTest, ExtentBlack}
+use Rattle.stroke.proofs.Kept.{has}
+use Rattle.stroke.proofs.Sweep.{sweep-iff}
+use Rattle.stroke.proofs.Black.{test-iff}
+use Rattle.stroke.proofs.Extent.{extent-iff}
+
+pub kept-has : KeptHas
+kept-has = has
+
+pub sweep-sides : SweepSides
+sweep-sides = sweep-iff
+
+pub black-test : BlackTest
+black-test = test-iff
+
+pub extent-black : ExtentBlack
+extent-black = extent-iff
