@@ -10,6 +10,7 @@
 --   Signs, Furthest, NearEdge, Rising  the black pixels of a middle row are those of the strip
 --   Level                              the black pixels of a middle column of a level path are those of the band
 --   WeightTheorems, Answers            theorems 4, 5 and 6; and line weight over the runs of row answers
+--   Theorems                           all claims of specs/Theorems.antt, each under its name there
 pub mod Lists
 pub mod Signs
 pub mod Kept
@@ -25,7 +26,6 @@ pub mod Reach
 pub mod Limits
 pub mod Extent
 pub mod Path
-pub mod Theorems
 pub mod Apart
 pub mod Runs
 pub mod Totals
@@ -36,3 +36,4 @@ pub mod Rising
 pub mod Level
 pub mod WeightTheorems
 pub mod Answers
+pub mod Theorems

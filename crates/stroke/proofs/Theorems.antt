@@ -1,9 +1,10 @@
 -- The claims of specs/Theorems.antt, each under its name there.
-use Rattle.stroke.specs.Theorems.{KeptHas, SweepSides, BlackTest, ExtentBlack}
+use Rattle.stroke.specs.Theorems.{KeptHas, SweepSides, BlackTest, ExtentBlack, RunsLongest, LongestUnique, RowsHold, ColumnHolds}
 use Rattle.stroke.proofs.Kept.{has}
 use Rattle.stroke.proofs.Sweep.{sweep-iff}
 use Rattle.stroke.proofs.Black.{test-iff}
 use Rattle.stroke.proofs.Extent.{extent-iff}
+use Rattle.stroke.proofs.WeightTheorems as weights
 
 pub kept-has : KeptHas
 kept-has = has
@@ -16,3 +17,15 @@ black-test = test-iff
 
 pub extent-black : ExtentBlack
 extent-black = extent-iff
+
+pub runs-longest : RunsLongest
+runs-longest = weights.runs-longest
+
+pub longest-unique : LongestUnique
+longest-unique = weights.longest-unique
+
+pub rows-hold : RowsHold
+rows-hold = weights.rows-hold
+
+pub column-holds : ColumnHolds
+column-holds = weights.column-holds

@@ -3,7 +3,7 @@
 use mathlib.Core.Bool.{Bool, true, false, cond, _&&_}
 use mathlib.Core.List.{List, [], _∷_}
 use Prim.Native.Nat.{ℕ}
-use lib.IntN.{ℤ, pos, negℤ, _+ℤ_, _-ℤ_, _*ℤ_}
+use lib.IntN.{ℤ, pos, negsuc, negℤ, _+ℤ_, _-ℤ_, _*ℤ_}
 use lib.Signed.{leZ, ltZ}
 use Rattle.integers.specs.Orders.{_≼_}
 use Rattle.integers.specs.Compare.{minZ, maxZ}
@@ -86,3 +86,7 @@ reached cs g j =
 
 unfoldable pub extent : List Pt → Seg → ℤ → Span
 extent cs g j = cond (reached cs g j) (spanOf (narrowed j (sides cs g) (record { some = true; least = free; most = free }))) none
+
+-- "each coordinate from -262,144 to 262,144"
+unfoldable pub inRange : ℤ → Bool
+inRange z = leZ (negsuc 262143) z && leZ z (pos 262144)
