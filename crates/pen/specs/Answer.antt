@@ -10,6 +10,7 @@ use Rattle.pen.specs.declared.Checked.the-variants as checked·
 use Rattle.pen.specs.declared.Quarter.{Quarter}
 use Rattle.pen.specs.declared.Pen.{Pen}
 use Rattle.pen.specs.declared.Built.{Built}
+use Rattle.pen.specs.Refusal.{number, setting}
 use Rattle.pen.specs.Setting.{taken}
 use Rattle.pen.specs.Polygon.{Pt, pt, pen}
 
@@ -41,4 +42,4 @@ unfoldable pub checked : Setting → Checked
 checked σ = elim (taken σ) [ true ↦ checked·.Taken σ | false ↦ checked·.Refused ]
 
 unfoldable pub built : Setting → Built
-built σ = elim (taken σ) [ true ↦ record { refusal = 0; pen = penOf (pen σ) } | false ↦ record { refusal = 1; pen = penOf [] } ]
+built σ = elim (taken σ) [ true ↦ record { refusal = 0; pen = penOf (pen σ) } | false ↦ record { refusal = number setting; pen = penOf [] } ]

@@ -1,4 +1,5 @@
 -- In the order of document 01; then what is proved.
+pub mod Refusal
 pub mod Setting
 pub mod NearRoot
 pub mod Cutting

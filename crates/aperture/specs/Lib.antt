@@ -1,0 +1,3 @@
+-- In the order of document 01.
+pub mod Table
+pub mod Reachable

@@ -1,0 +1,46 @@
+-- Document 01: "only defining and removing change it. Statements speak of tables so made".
+use Prim.Native.Nat.{ℕ, _-_, _<_}
+use mathlib.Core.Path.{_≡_}
+use mathlib.Core.Bool.{true, false}
+use lib.ListN.{getD}
+use Rattle.pen.specs.declared.Setting.{Setting}
+use Rattle.pen.specs.Setting.{Taken}
+use Rattle.pen.specs.Polygon.{pen}
+use Rattle.pen.specs.Answer.{penOf}
+use Rattle.aperture.specs.declared.Place.{Place}
+use Rattle.aperture.specs.declared.Table.{Table}
+use Rattle.aperture.specs.Table.{vacant, holding, isNumber, isHeld, empty, placeOf, withPlace, defined, removed}
+
+-- the tables that the calls make from the empty one
+pub data Reachable : Table → Type 0 where
+  starts : Reachable empty
+  defines : {t : Table} (n : ℕ) (σ : Setting) → Reachable t → Reachable (defined t n σ .table)
+  removes : {t : Table} (n : ℕ) → Reachable t → Reachable (removed t n .table)
+
+-- a place is vacant, or holds a setting within the limits and exactly that setting's pen
+pub data Sound : Place → Type 0 where
+  nothing : Sound vacant
+  some : {σ : Setting} → Taken σ → Sound (holding σ)
+
+-- every table so made holds only pens of its settings
+abbrev pub ReachableSound : Type 0
+ReachableSound = (t : Table) → Reachable t → (n : ℕ) → Sound (placeOf t n)
+
+-- what a call does to the apertures: "makes its own aperture hold exactly the setting given and that setting's pen", "makes its own empty", "every other
+-- aperture stays as it was", "A removed aperture may be defined again"
+abbrev pub DefinedHolds : Type 0
+DefinedHolds = (t : Table) → Reachable t → (n : ℕ) (σ : Setting) → defined t n σ .refusal ≡ 0 → placeOf (defined t n σ .table) n ≡ holding σ
+
+abbrev pub RemovedVacant : Type 0
+RemovedVacant = (t : Table) → Reachable t → (n : ℕ) → removed t n .refusal ≡ 0 → placeOf (removed t n .table) n ≡ vacant
+
+abbrev pub OthersKept : Type 0
+OthersKept =
+    (t : Table) (n m : ℕ) (σ : Setting) → isNumber n ≡ true → isNumber m ≡ true → ¬ (n ≡ m) →
+    (placeOf (defined t n σ .table) m ≡ placeOf t m) × (placeOf (removed t n .table) m ≡ placeOf t m)
+
+abbrev pub RefusalKeeps : Type 0
+RefusalKeeps = (t : Table) (n : ℕ) (σ : Setting) → (¬ (defined t n σ .refusal ≡ 0) → defined t n σ .table ≡ t) × (¬ (removed t n .refusal ≡ 0) → removed t n .table ≡ t)
+
+abbrev pub RemovedAgain : Type 0
+RemovedAgain = (t : Table) → Reachable t → (n : ℕ) (σ : Setting) → Taken σ → removed t n .refusal ≡ 0 → defined (removed t n .table) n σ .refusal ≡ 0
