@@ -2,7 +2,6 @@
 // pen. A table goes in by value and comes back by value; only define and remove change one.
 ghost use mathlib.Core.Path.{_≡_};
 ghost use Rattle.aperture.specs.Table.{empty, defined, removed, looked};
-
 use pen::Pen;
 use pen::Setting;
 

@@ -1,0 +1,65 @@
+-- How the code goes about a row: each segment's extent is cut to the raster, and a row that several segments touch is put together in an array. Inside
+-- the crate only; proofs/Cuts and proofs/Far say that it comes to the same as `blackAt`.
+use Prim.Native.Nat.{ℕ, zero, suc, _+_, _-_, max}
+use mathlib.Core.Bool.{Bool, true, false, cond, _&&_}
+use mathlib.Core.List.{List, [], _∷_, map}
+use lib.Dec.{leb, ltb}
+use lib.ListN.{length, getD, set}
+use lib.IntN.{ℤ, pos, natAbs, _-ℤ_}
+use lib.Signed.{leZ, ltZ}
+use Rattle.integers.specs.Compare.{minZ, maxZ}
+use Rattle.pen.specs.Polygon.{Pt}
+use Rattle.stroke.specs.Sweep.{Seg, segments}
+use Rattle.stroke.specs.Extent.{Span, none, columns, extent}
+use Rattle.stroke.specs.Runs.{any}
+use Rattle.row.specs.declared.Cut.{Cut}
+use Rattle.row.specs.declared.Cut.the-variants as cut·
+use Rattle.row.specs.declared.Touch.{Touch}
+use Rattle.row.specs.declared.Touch.the-variants as touch·
+
+-- a span within columns 0 .. wide - 1
+abbrev pub cutSpan : ℕ → Span → Cut
+cutSpan wide none = cut·.Nothing
+cutSpan wide (columns first last) =
+    cond (leZ (maxZ first (pos 0)) (minZ last (pos wide -ℤ pos 1))) (cut·.Columns (natAbs (maxZ first (pos 0))) (natAbs (minZ last (pos wide -ℤ pos 1)))) cut·.Nothing
+
+-- the cuts of a path's segments in row j
+abbrev pub cuts : List Pt → List Pt → ℕ → ℕ → List Cut
+cuts cs path wide j = map (λ g. cutSpan wide (extent cs g (pos j))) (segments path)
+
+abbrev pub inCut : ℕ → Cut → Bool
+inCut x cut·.Nothing = false
+inCut x (cut·.Columns l r) = leb l x && leb x r
+
+-- column x is black by the cuts
+abbrev pub blackCut : List Cut → ℕ → Bool
+blackCut cs x = any (inCut x) cs
+
+-- what the cuts so far and one more make
+abbrev pub touched : Touch → Cut → Touch
+touched t cut·.Nothing = t
+touched touch·.Untouched (cut·.Columns l r) = touch·.One l r
+touched (touch·.One a b) (cut·.Columns l r) = touch·.Several
+touched touch·.Several (cut·.Columns l r) = touch·.Several
+
+unfoldable pub touchOf : List Cut → Touch → Touch
+touchOf [] t = t
+touchOf (c ∷ cs) t = touchOf cs (touched t c)
+
+-- far[l] is one past the furthest right end of the cuts that start at column l, and 0 where none does
+abbrev pub farther : List ℕ → Cut → List ℕ
+farther far cut·.Nothing = far
+farther far (cut·.Columns l r) = set far l (max (getD far l 0) (suc r))
+
+unfoldable pub farOf : List Cut → List ℕ → List ℕ
+farOf [] far = far
+farOf (c ∷ cs) far = farOf cs (farther far c)
+
+-- the furthest that any cut that starts at column x or before it goes
+unfoldable pub reachTo : List ℕ → ℕ → ℕ
+reachTo far zero = getD far 0 0
+reachTo far (suc x) = max (reachTo far x) (getD far (suc x) 0)
+
+-- column x is black by the array
+abbrev pub blackFar : List ℕ → ℕ → Bool
+blackFar far x = ltb x (reachTo far x)
