@@ -1,0 +1,100 @@
+-- Document 01, "Cases": all that are marked *, pens and rows, as the definitions give them. One table, and one statement over it.
+use Prim.Native.Nat.{ℕ, zero, suc}
+use mathlib.Core.Path.{_≡_, refl}
+use mathlib.Core.Bool.{Bool, true, false, _&&_}
+use mathlib.Core.List.{List, [], _∷_, map}
+use lib.Dec.{eqb}
+use lib.ListN.{length, replicate}
+use lib.IntN.{ℤ, pos, negℤ}
+use Rattle.pen.specs.declared.Setting.{Setting}
+use Rattle.pen.specs.Setting.{taken, Dx, Dy}
+use Rattle.pen.specs.NearRoot.{norm, lower, tried, bisect, nearRoot}
+use Rattle.pen.specs.Cutting.{amount, retained, corners, quarter}
+use Rattle.pen.specs.Polygon.{Pt, pt, same, upward, upAndBack, onceEach, pen}
+use Rattle.pen.specs.Laws.{chain, edges}
+use Rattle.stroke.specs.Sides.{furthest, sides}
+use Rattle.stroke.specs.Black.{kept}
+use Rattle.stroke.specs.Extent.{inRange, narrowed, extent}
+use Rattle.stroke.specs.Runs.{Run, runsFrom, runsOf}
+use Rattle.row.specs.declared.Answer.{Answer}
+use Rattle.row.specs.Checks.{coordinateFrom}
+use Rattle.row.specs.Answer.{Result, pathPoints, listed, success, rowResult}
+
+pub data Case : Type 0 where
+  -- the setting is taken, and these are its pen's lower right corners from the bottom
+  penIs : Setting → List Pt → Case
+  -- with the setting's pen, the path, and a raster of so many columns and rows: the runs of each row from row 0 up
+  rowsAre : Setting → List ℤ → ℕ → ℕ → List (List Run) → Case
+
+unfoldable pub samePoints : List Pt → List Pt → Bool
+samePoints [] [] = true
+samePoints [] (Q ∷ l) = false
+samePoints (P ∷ k) [] = false
+samePoints (P ∷ k) (Q ∷ l) = same P Q && samePoints k l
+
+unfoldable pub sameNumbers : List ℕ → List ℕ → Bool
+sameNumbers [] [] = true
+sameNumbers [] (b ∷ l) = false
+sameNumbers (a ∷ k) [] = false
+sameNumbers (a ∷ k) (b ∷ l) = eqb a b && sameNumbers k l
+
+abbrev pub sameResult : Result → Result → Bool
+sameResult r s =
+    eqb (r .answer .refusal) (s .answer .refusal) && (eqb (r .answer .place) (s .answer .place) && (eqb (r .answer .count) (s .answer .count) && sameNumbers (r .list) (s .list)))
+
+-- a list with room for three runs
+abbrev pub blank : List ℕ
+blank = replicate 6 0
+
+-- the answers for row j and those above it, in a raster of so many rows, are 0 with exactly these runs
+unfoldable pub rowsFrom : List Pt → List ℤ → ℕ → ℕ → ℕ → List (List Run) → Bool
+rowsFrom cs path columns rows j [] = eqb j rows
+rowsFrom cs path columns rows j (rs ∷ l) = sameResult (rowResult cs path columns rows j blank) (success (length rs) (listed rs blank)) && rowsFrom cs path columns rows (suc j) l
+
+abbrev pub holds : Case → Bool
+holds (penIs σ l) = taken σ && samePoints (map upward (quarter σ)) l
+holds (rowsAre σ path columns rows l) = taken σ && rowsFrom (pen σ) path columns rows 0 l
+
+unfoldable pub all : List Case → Bool
+all [] = true
+all (c ∷ l) = holds c && all l
+
+-- the setting of width w and aspect p/q; the corner (x, -y); a run; a row with no black pixel
+abbrev setting : ℕ → ℕ → ℕ → Setting
+setting w p q = record { w = w; p = p; q = q }
+
+abbrev at : ℕ → ℕ → Pt
+at x y = pt (pos x) (negℤ (pos y))
+
+abbrev run : ℕ → ℕ → List Run
+run l r = record { left = l; right = r } ∷ []
+
+abbrev clear : List Run
+clear = []
+
+abbrev line : ℕ → ℕ → ℕ → ℕ → List ℤ
+line a b c d = pos a ∷ pos b ∷ pos c ∷ pos d ∷ []
+
+abbrev dot : ℕ → ℕ → List ℤ
+dot a b = pos a ∷ pos b ∷ []
+
+abbrev pub table : List Case
+table =
+    penIs (setting 16 1 1) (at 0 1 ∷ at 1 0 ∷ []) ∷
+    penIs (setting 32 1 1) (at 0 2 ∷ at 2 1 ∷ []) ∷
+    penIs (setting 48 1 1) (at 1 3 ∷ at 3 1 ∷ []) ∷
+    penIs (setting 64 1 1) (at 1 4 ∷ at 3 3 ∷ at 4 1 ∷ []) ∷
+    penIs (setting 112 1 1) (at 1 7 ∷ at 4 6 ∷ at 6 4 ∷ at 7 1 ∷ []) ∷
+    penIs (setting 176 1 1) (at 1 11 ∷ at 5 10 ∷ at 8 8 ∷ at 10 5 ∷ at 11 1 ∷ []) ∷
+    penIs (setting 32 2 1) (at 2 2 ∷ at 4 0 ∷ []) ∷
+    rowsAre (setting 16 1 1) (dot 32 32) 20 12 (clear ∷ clear ∷ run 2 2 ∷ clear ∷ clear ∷ clear ∷ clear ∷ clear ∷ clear ∷ clear ∷ clear ∷ clear ∷ []) ∷
+    rowsAre (setting 16 1 1) (dot 40 32) 20 12 (clear ∷ clear ∷ run 3 3 ∷ clear ∷ clear ∷ clear ∷ clear ∷ clear ∷ clear ∷ clear ∷ clear ∷ clear ∷ []) ∷
+    rowsAre (setting 16 1 1) (dot 32 40) 20 12 (clear ∷ clear ∷ clear ∷ clear ∷ clear ∷ clear ∷ clear ∷ clear ∷ clear ∷ clear ∷ clear ∷ clear ∷ []) ∷
+    rowsAre (setting 48 1 1) (line 48 32 160 32) 20 12 (clear ∷ run 3 11 ∷ run 2 11 ∷ run 3 11 ∷ clear ∷ clear ∷ clear ∷ clear ∷ clear ∷ clear ∷ clear ∷ clear ∷ []) ∷
+    rowsAre (setting 48 1 1) (line 48 32 160 32) 6 12 (clear ∷ run 3 5 ∷ run 2 5 ∷ run 3 5 ∷ clear ∷ clear ∷ clear ∷ clear ∷ clear ∷ clear ∷ clear ∷ clear ∷ []) ∷
+    rowsAre (setting 48 1 1) (line 48 40 160 40) 20 12 (clear ∷ run 3 10 ∷ run 2 11 ∷ run 2 11 ∷ clear ∷ clear ∷ clear ∷ clear ∷ clear ∷ clear ∷ clear ∷ clear ∷ []) ∷
+    []
+
+pub all-hold : all table ≡ true
+unfolding taken Dx Dy norm lower tried bisect nearRoot amount retained corners quarter upAndBack onceEach pen chain edges furthest sides kept inRange narrowed extent runsFrom runsOf coordinateFrom pathPoints rowResult samePoints sameNumbers rowsFrom all
+all-hold = refl
