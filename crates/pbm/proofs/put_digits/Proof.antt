@@ -1,0 +1,74 @@
+-- Five pieces, one behind the other.
+use Rattle.pbm.proofs.Pieces.{five}
+use denote.Ref.{now}
+use borrow.Author.Needs.{needs}
+use Rattle.pbm.proofs.put_digits.Statement.{statement}
+use Rattle.pbm.proofs.put_digits.Tie as tie
+
+slice-aggregate-put : tie.Need-slice-aggregate-put
+slice-aggregate-put c = search needs
+
+put-requires : tie.Need-put-requires
+put-requires c κs = search needs
+
+put-requires-2 : tie.Need-put-requires-2
+put-requires-2 c κs = search needs
+
+add-put : tie.Need-add-put
+add-put c = search needs
+
+slice-aggregate-put-2 : tie.Need-slice-aggregate-put-2
+slice-aggregate-put-2 c = search needs
+
+put-requires-3 : tie.Need-put-requires-3
+put-requires-3 c κs = search needs
+
+add-put-2 : tie.Need-add-put-2
+add-put-2 c = search needs
+
+put-requires-4 : tie.Need-put-requires-4
+put-requires-4 c κs = search needs
+
+add-put-3 : tie.Need-add-put-3
+add-put-3 c = search needs
+
+add-put-4 : tie.Need-add-put-4
+add-put-4 c = search needs
+
+slice-aggregate-put-3 : tie.Need-slice-aggregate-put-3
+slice-aggregate-put-3 c = search needs
+
+put-requires-5 : tie.Need-put-requires-5
+put-requires-5 c κs = search needs
+
+same-length : tie.Need-same-length
+same-length c = search needs
+
+returns : tie.Need-returns
+returns c =
+    let p₅ = c .before .before in
+    let p₄ = p₅ .before .before .before .before .before in
+    let p₃ = p₄ .before .before .before .before in
+    let p₂ = p₃ .before .before .before .before .before in
+    let p₁ = p₂ .before .before .before .before in
+    let a = p₁ .before .before .before .before .before .before .args in
+    five (now (a .wide)) (now (a .high)) (now (a .out)) (p₁ .put .ensures) (p₂ .put2 .ensures) (p₃ .put3 .ensures) (p₄ .put4 .ensures) (p₅ .put5 .ensures)
+
+pub put-digits-spec : {M : Type 1} → statement M
+put-digits-spec =
+    tie.close
+    (tie.spec
+    slice-aggregate-put
+    put-requires
+    put-requires-2
+    add-put
+    slice-aggregate-put-2
+    put-requires-3
+    add-put-2
+    put-requires-4
+    add-put-3
+    add-put-4
+    slice-aggregate-put-3
+    put-requires-5
+    same-length
+    returns)

@@ -1,0 +1,2 @@
+-- The raw PBM form of document 01.
+pub mod Pbm

@@ -1,0 +1,58 @@
+-- Document 01, "Cases" and "Units and sizes": a raw PBM file.
+use Prim.Native.Nat.{ℕ, zero, suc, _+_, _/_, _%_}
+use mathlib.Core.Bool.{Bool, true, false, cond, _&&_}
+use mathlib.Core.List.{List, [], _∷_, _++_}
+use lib.Dec.{leb, ltb}
+use lib.ListN.{length, drop}
+
+-- "Raster: columns and rows each 1 to 16,384"
+abbrev pub isSize : ℕ → Bool
+isSize n = leb 1 n && leb n 16384
+
+-- the ASCII code of a digit below 10
+abbrev pub digit : ℕ → ℕ
+digit d = 48 + d
+
+-- at most k digits of n, ending with its last one
+unfoldable pub lastDigits : ℕ → ℕ → List ℕ
+lastDigits zero n = []
+lastDigits (suc k) n = elim (ltb n 10) [ true ↦ digit n ∷ [] | false ↦ lastDigits k (n / 10) ++ (digit (n % 10) ∷ []) ]
+
+-- "decimal without leading zeros"; a number has no more digits than its successor counts
+abbrev pub decimal : ℕ → List ℕ
+decimal n = lastDigits (suc n) n
+
+-- "the characters P4, newline, 5, space, 3, newline": here with the digits of any two sizes
+abbrev pub headed : List ℕ → List ℕ → List ℕ
+headed wide high = (80 ∷ 52 ∷ 10 ∷ []) ++ wide ++ (32 ∷ []) ++ high ++ (10 ∷ [])
+
+-- "Sizes are decimal without leading zeros, columns first"
+abbrev pub header : ℕ → ℕ → List ℕ
+header columns rows = headed (decimal columns) (decimal rows)
+
+-- "The top row comes first": the bytes of row rows - 1 down to row 0
+unfoldable pub topFirst : ℕ → (ℕ → List ℕ) → List ℕ
+topFirst zero row = []
+topFirst (suc j) row = row j ++ topFirst j row
+
+-- a whole file: the header and the packed rows
+abbrev pub file : ℕ → ℕ → (ℕ → List ℕ) → List ℕ
+file columns rows row = header columns rows ++ topFirst rows row
+
+-- the buffer b with p at its start
+abbrev pub started : List ℕ → List ℕ → List ℕ
+started p b = p ++ drop (length p) b
+
+-- what is answered, and the buffer at exit
+pub record Put : Type 0 where
+  pub count : ℕ
+  pub buffer : List ℕ
+
+-- a size outside its limits, and a header longer than the buffer, give 0 and leave the buffer
+abbrev pub fits : ℕ → ℕ → List ℕ → Bool
+fits columns rows b = isSize columns && (isSize rows && leb (length (header columns rows)) (length b))
+
+abbrev pub headerPut : ℕ → ℕ → List ℕ → Put
+headerPut columns rows b = cond (fits columns rows b)
+    (record { count = length (header columns rows); buffer = started (header columns rows) b })
+    (record { count = 0; buffer = b })
