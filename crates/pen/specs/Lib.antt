@@ -11,3 +11,4 @@ pub mod Moment
 pub mod Held
 pub mod Mirrored
 pub mod Theorems
+pub mod Cases
