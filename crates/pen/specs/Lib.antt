@@ -11,4 +11,3 @@ pub mod Moment
 pub mod Held
 pub mod Mirrored
 pub mod Theorems
-pub mod Cases
