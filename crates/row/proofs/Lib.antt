@@ -1,0 +1,6 @@
+-- What is proved of a row answer.
+--   PackedRow              the bytes of a packed row: how many, each bit of each, and how a loop fills a buffer with them
+--   PackedSpan, PackedFar  for the code: the byte of a span, and the reach from column to column
+pub mod PackedRow
+pub mod PackedSpan
+pub mod PackedFar
