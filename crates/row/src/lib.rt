@@ -5,6 +5,10 @@
 // of runs (runs) or the packed row (packed).
 use pen::Pen;
 
+mod far;
+mod packed;
+mod runs;
+
 // What a check answers: nothing to refuse, or the refusal's number and place.
 pub enum Verdict {
     Passed,

@@ -1,0 +1,90 @@
+-- The loop passes the columns one after the other, and the list always holds the runs of the columns passed.
+use Prim.Native.Nat.{ℕ, suc, _*_, _-_, _≤_, _<_}
+use mathlib.Core.Path.{_≡_, refl, ap, _∙_}
+use mathlib.Core.Bool.{Bool}
+use mathlib.Core.List.{List}
+use native.Mathlib.Numerals.{add-one}
+use native.Mathlib.Omega.{arith}
+use lib.ListN.{length}
+use Rattle.stroke.specs.Runs.{runsOf, runsFrom}
+use Rattle.row.specs.Answer.{listed}
+use Rattle.row.specs.Cuts.{blackFar}
+use Rattle.row.proofs.Grown.{runs-more}
+use Rattle.row.proofs.Pass.{Passed, passed-none, passed-few, passed-some, passed-next, passed-listed}
+use Rattle.row.proofs.runs.write_runs.Statement.{statement}
+use Rattle.row.proofs.runs.write_runs.Tie as tie
+
+abbrev Inv-loop : tie.InvT-loop
+Inv-loop far columns runs₀ p₀ i₀ runs p i = (i ≤ columns) × Passed far i p × (runs ≡ listed (runsOf (blackFar far) i) runs₀) × (length runs ≡ length runs₀)
+
+abbrev μ-loop : tie.MeasureT-loop
+μ-loop far columns runs₀ p₀ i₀ runs p i = columns - i
+
+-- no column, no run
+none : (f : ℕ → Bool) (l : List ℕ) → l ≡ listed (runsOf f 0) l
+unfolding runsOf runsFrom
+none f l = refl
+
+-- the list is long enough for the runs of the first columns, as it is for all
+room : (f : ℕ → Bool) (i : ℕ) {n m : ℕ} → i < n → 2 * length (runsOf f n) ≤ m → 2 * length (runsOf f (suc i)) ≤ m
+room f i {n} h k = omega (arith, runs-more f (suc i) n h)
+
+begin-requires : tie.Need-begin-requires Inv-loop μ-loop
+begin-requires c κs = tt
+
+loop-holds : tie.Need-loop-holds Inv-loop μ-loop
+loop-holds c = let a = c .before .before .before .args in (omega arith, passed-none (a .far .now) (c .begin .ensures), none (blackFar (a .far .now)) (a .runs .now), refl)
+
+next-requires : tie.Need-next-requires Inv-loop μ-loop
+next-requires c κs = (omega arith, omega (arith, passed-few (c .before .loop .inv .1)))
+
+write-column-requires : tie.Need-write-column-requires Inv-loop μ-loop
+write-column-requires c κs =
+    let i = c .before .before .before .loop in
+    let a = c .before .before .before .before .before .before .before in
+    let q = passed-next (i .inv .1) (c .before .next .ensures) in
+    (omega arith, (passed-some (i .inv .1), omega (arith, c .before .next .ensures .1 .1, q .counts, room (blackFar (a .args .far .now)) (i .i) (c .before .before .loop-test .taken) (a .pre .1 .1), i .inv .3)))
+
+add-i : tie.Need-add-i Inv-loop μ-loop
+add-i c = omega (arith, c .before .before .before .before .before .loop-test .taken, c .before .before .before .before .before .before .before .before .before .before .pre .1 .0)
+
+loop-less : tie.Need-loop-less Inv-loop μ-loop
+loop-less c = omega (arith, c .before .before .before .before .before .loop-test .taken)
+
+loop-again : tie.Need-loop-again Inv-loop μ-loop
+loop-again c =
+    let i = c .before .before .before .before .before .before .loop in
+    let a = c .before .before .before .before .before .before .before .before .before .before in
+    let t = c .before .before .before .before .before .loop-test .taken in
+    let q = passed-next (i .inv .1) (c .before .before .before .before .next .ensures) in (
+      omega (arith, t),
+      rw add-one q,
+      rw add-one (passed-listed (i .inv .1) q (a .args .runs .now) (room (blackFar (a .args .far .now)) (i .i) t (a .pre .1 .1)) (i .inv .2) (c .before .before .write-column .ensures)),
+      c .before .before .write-column .kept .0 ∙ i .inv .3,
+    )
+
+same-length : tie.Need-same-length Inv-loop μ-loop
+same-length c = c .before .loop .inv .3
+
+returns : tie.Need-returns Inv-loop μ-loop
+returns c =
+    let i = c .before .loop in
+    let a = c .before .before .before .before .before .args in
+    let e : i .i ≡ a .columns = omega (arith, i .inv .0, c .loop-test .left) in
+    i .inv .2 ∙ ap (λ k. listed (runsOf (blackFar (a .far .now)) k) (a .runs .now)) e
+
+pub write-runs-spec : {M : Type 1} → statement M
+write-runs-spec =
+    tie.close
+    (tie.spec
+    Inv-loop
+    μ-loop
+    begin-requires
+    loop-holds
+    next-requires
+    write-column-requires
+    add-i
+    loop-less
+    loop-again
+    same-length
+    returns)
