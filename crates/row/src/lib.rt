@@ -5,6 +5,8 @@
 // of runs (runs) or the packed row (packed).
 use pen::Pen;
 
+mod checks;
+
 // What a check answers: nothing to refuse, or the refusal's number and place.
 pub enum Verdict {
     Passed,
