@@ -1,6 +1,7 @@
 -- What is proved of a row answer.
 --   Records, Demands       the answers as records, and document 01's demands over them
 --   Theorems               the theorems that the promises name
+--   Verdicts               what a check answers, and what a passed one says of the path's entries
 --   Grown, Listed, Pass    the runs from left to right: what one column more does to them, to the list that holds them, and to what the pass knows
 --   Marked                 a row put together in an array: its black columns are those of the cuts
 --   OneRun                 the runs of a row that one cut or none touches
@@ -9,6 +10,7 @@
 pub mod Records
 pub mod Demands
 pub mod Theorems
+pub mod Verdicts
 pub mod Grown
 pub mod Listed
 pub mod Pass

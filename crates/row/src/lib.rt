@@ -5,6 +5,7 @@
 // of runs (runs) or the packed row (packed).
 use pen::Pen;
 
+mod checks;
 mod far;
 mod packed;
 mod runs;
