@@ -1,0 +1,67 @@
+-- What defining, removing and looking up answer, by the cases of their checks: each check's answer is put into the definition, which then computes.
+use Prim.Native.Nat.{ℕ, _-_}
+use mathlib.Core.Path.{_≡_, refl}
+use mathlib.Core.Bool.{Bool, true, false}
+use native.Mathlib.Omega.{arith}
+use Rattle.pen.specs.declared.Setting.{Setting}
+use Rattle.pen.specs.Refusal.{aperture, setting, inUse}
+use Rattle.pen.specs.Setting.{taken}
+use Rattle.pen.specs.Answer.{checked}
+use Rattle.pen.specs.declared.Checked.{Checked}
+use Rattle.pen.specs.declared.Checked.the-variants as checked·
+use Rattle.aperture.specs.declared.Table.{Table}
+use Rattle.aperture.specs.declared.Looked.the-variants as looked·
+use Rattle.aperture.specs.Table.{vacant, holding, isNumber, isHeld, placeOf, withPlace, refused, done, defined, removed, looked}
+
+-- ---- what the check of a setting says
+pub checked-taken : (σ s : Setting) → checked σ ≡ checked·.Taken s → (taken σ ≡ true) × (σ ≡ s)
+unfolding checked
+checked-taken σ s e = go (taken σ) refl e
+  where
+    go : (t : Bool) → taken σ ≡ t → (elim t as (λ _. Checked) [ true ↦ checked·.Taken σ | false ↦ checked·.Refused ]) ≡ checked·.Taken s → (taken σ ≡ true) × (σ ≡ s)
+    go true h e = (h, cc)
+    go false h e = absurd (let z : _≡_ {A = ℕ} 0 1 = cc in omega arith)
+
+pub checked-refused : (σ : Setting) → checked σ ≡ checked·.Refused → taken σ ≡ false
+unfolding checked
+checked-refused σ e = go (taken σ) refl e
+  where
+    go : (t : Bool) → taken σ ≡ t → (elim t as (λ _. Checked) [ true ↦ checked·.Taken σ | false ↦ checked·.Refused ]) ≡ checked·.Refused → taken σ ≡ false
+    go true h e = absurd (let z : _≡_ {A = ℕ} 0 1 = cc in omega arith)
+    go false h e = h
+
+-- ---- defining
+module _ (t : Table) (n : ℕ) (σ : Setting) where
+  pub not-number : isNumber n ≡ false → defined t n σ ≡ refused aperture t
+  unfolding defined
+  not-number e = rw (e, defined)
+
+  pub not-taken : isNumber n ≡ true → taken σ ≡ false → defined t n σ ≡ refused setting t
+  unfolding defined
+  not-taken e f = rw (e, f, defined)
+
+  pub not-free : isNumber n ≡ true → taken σ ≡ true → placeOf t n .used ≡ true → defined t n σ ≡ refused inUse t
+  unfolding defined
+  not-free e f g = rw (e, f, g, defined)
+
+  pub stores : isNumber n ≡ true → taken σ ≡ true → placeOf t n .used ≡ false → defined t n σ ≡ done (withPlace t n (holding σ))
+  unfolding defined
+  stores e f g = rw (e, f, g, defined)
+
+-- ---- removing and looking up
+module _ (t : Table) (n : ℕ) where
+  pub not-held : isHeld t n ≡ false → removed t n ≡ refused aperture t
+  unfolding removed
+  not-held e = rw (e, removed)
+
+  pub empties : isHeld t n ≡ true → removed t n ≡ done (withPlace t n vacant)
+  unfolding removed
+  empties e = rw (e, removed)
+
+  pub looks-nowhere : isHeld t n ≡ false → looked t n ≡ looked·.Refused
+  unfolding looked
+  looks-nowhere e = rw (e, looked)
+
+  pub looks-at : isHeld t n ≡ true → looked t n ≡ looked·.At (n - 10)
+  unfolding looked
+  looks-at e = rw (e, looked)
