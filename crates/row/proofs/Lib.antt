@@ -11,6 +11,9 @@ pub mod Records
 pub mod Demands
 pub mod Theorems
 pub mod Verdicts
+pub mod Raster
+pub mod Segments
+pub mod Touches
 pub mod Grown
 pub mod Listed
 pub mod Pass
@@ -19,3 +22,4 @@ pub mod OneRun
 pub mod PackedRow
 pub mod PackedSpan
 pub mod PackedFar
+pub mod Together

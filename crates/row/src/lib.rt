@@ -6,6 +6,8 @@
 use pen::Pen;
 
 mod checks;
+mod cuts;
+mod draw;
 mod far;
 mod packed;
 mod runs;

@@ -1,0 +1,34 @@
+use borrow.Author.Needs.{needs}
+use Rattle.row.proofs.draw.mark_cut.Statement.{statement}
+use Rattle.row.proofs.draw.mark_cut.Tie as tie
+use Rattle.row.proofs.draw.mark_cut.Reads as reads
+use Rattle.row.proofs.draw.mark_cut.Lts as lts
+use Rattle.row.proofs.far.mark.Reads as mark-reads
+
+-- src/draw.rt:59:22
+enum-known-cut : tie.Need-enum-known-cut
+enum-known-cut c = search needs
+
+-- src/draw.rt:60:9
+enum-told : tie.Need-enum-told
+enum-told c = search needs
+
+-- src/draw.rt:60:9
+returns : tie.Need-returns
+returns c = search needs
+
+-- src/draw.rt:62:5
+mark-requires : tie.Need-mark-requires
+mark-requires c κs = ?
+
+-- src/draw.rt:55:1
+same-length : tie.Need-same-length
+same-length c = search needs
+
+-- src/draw.rt:55:1
+returns-2 : tie.Need-returns-2
+returns-2 c = ?
+
+pub mark-cut-spec : {M : Type 1} → statement M
+mark-cut-spec =
+    tie.close (tie.spec enum-known-cut enum-told returns mark-requires same-length returns-2)

@@ -1,0 +1,49 @@
+use borrow.Author.Needs.{needs}
+use Rattle.row.proofs.draw.write_far.Statement.{statement}
+use Rattle.row.proofs.draw.write_far.Tie as tie
+use Rattle.row.proofs.draw.write_far.Reads as reads
+use Rattle.row.proofs.draw.write_far.Lts as lts
+use Rattle.row.proofs.draw.done.Reads as done-reads
+use Rattle.row.proofs.draw.refused.Reads as refused-reads
+use Rattle.row.proofs.runs.count_runs.Reads as count-runs-reads
+use Rattle.row.proofs.runs.write_runs.Reads as write-runs-reads
+
+-- src/draw.rt:96:9
+count-runs-requires : tie.Need-count-runs-requires
+count-runs-requires c κs = search needs
+
+-- src/draw.rt:98:9
+refused-requires : tie.Need-refused-requires
+refused-requires c κs = search needs
+
+-- src/draw.rt:98:9
+returns : tie.Need-returns
+returns c = ?
+
+-- src/draw.rt:100:5
+write-runs-requires : tie.Need-write-runs-requires
+write-runs-requires c κs = search needs
+
+-- src/draw.rt:101:5
+done-requires : tie.Need-done-requires
+done-requires c κs = search needs
+
+-- src/draw.rt:92:1
+same-length : tie.Need-same-length
+same-length c = search needs
+
+-- src/draw.rt:92:1
+returns-2 : tie.Need-returns-2
+returns-2 c = ?
+
+pub write-far-spec : {M : Type 1} → statement M
+write-far-spec =
+    tie.close
+    (tie.spec
+    count-runs-requires
+    refused-requires
+    returns
+    write-runs-requires
+    done-requires
+    same-length
+    returns-2)

@@ -1,0 +1,37 @@
+use borrow.Author.Needs.{needs}
+use Rattle.row.proofs.draw.write_single.Statement.{statement}
+use Rattle.row.proofs.draw.write_single.Tie as tie
+use Rattle.row.proofs.draw.write_single.Reads as reads
+use Rattle.row.proofs.draw.write_single.Lts as lts
+use Rattle.row.proofs.draw.done.Reads as done-reads
+use Rattle.row.proofs.draw.refused.Reads as refused-reads
+use Rattle.row.proofs.runs.write_one.Reads as write-one-reads
+
+-- src/draw.rt:85:9
+refused-requires : tie.Need-refused-requires
+refused-requires c κs = search needs
+
+-- src/draw.rt:85:9
+returns : tie.Need-returns
+returns c = ?
+
+-- src/draw.rt:87:5
+write-one-requires : tie.Need-write-one-requires
+write-one-requires c κs = search needs
+
+-- src/draw.rt:88:5
+done-requires : tie.Need-done-requires
+done-requires c κs = search needs
+
+-- src/draw.rt:80:1
+same-length : tie.Need-same-length
+same-length c = search needs
+
+-- src/draw.rt:80:1
+returns-2 : tie.Need-returns-2
+returns-2 c = ?
+
+pub write-single-spec : {M : Type 1} → statement M
+write-single-spec =
+    tie.close
+    (tie.spec refused-requires returns write-one-requires done-requires same-length returns-2)
