@@ -6,6 +6,7 @@
 use pen::Pen;
 
 mod checks;
+mod cuts;
 
 // What a check answers: nothing to refuse, or the refusal's number and place.
 pub enum Verdict {
