@@ -64,7 +64,7 @@ fn mark_cut(far: &mut [u16], cut: Cut)
 
 // The cuts of all segments in the array.
 fn put_together(far: &mut [u16], xs: &[i8], ys: &[i8], count: usize, path: &[i32], wide: usize, row: u64)
-    requires { ⌜ coordinateVerdict (now path) ≡ Passed ⌝ ∗ ⌜ 1 ≤ wide ⌝ ∗ ⌜ wide ≤ 16384 ⌝ ∗ ⌜ row ≤ 16383 ⌝ ∗ ⌜ wide ≤ length (now far) ⌝ }
+    requires { ⌜ coordinateVerdict (now path) ≡ Passed ⌝ ∗ ⌜ (1 ≤ wide) × (wide ≤ 16384) ⌝ ∗ ⌜ row ≤ 16383 ⌝ ∗ ⌜ wide ≤ length (now far) ⌝ }
     ensures { λ _. ⌜ now (far .exit) ≡ farOf (cuts (corners count (now (xs .entry)) (now (ys .entry))) (pathPoints (now (path .entry))) wide row) (now (far .entry)) ⌝ }
 {
     let n = segment_count(path);
@@ -102,7 +102,7 @@ fn write_far(runs: &mut [u16], far: &[u16], columns: usize) -> Answer
 }
 
 fn several_runs(runs: &mut [u16], xs: &[i8], ys: &[i8], count: usize, path: &[i32], wide: usize, row: u64) -> Answer
-    requires { ⌜ coordinateVerdict (now path) ≡ Passed ⌝ ∗ ⌜ 1 ≤ wide ⌝ ∗ ⌜ wide ≤ 16384 ⌝ ∗ ⌜ row ≤ 16383 ⌝ }
+    requires { ⌜ coordinateVerdict (now path) ≡ Passed ⌝ ∗ ⌜ (1 ≤ wide) × (wide ≤ 16384) ⌝ ∗ ⌜ row ≤ 16383 ⌝ }
     ensures { λ r. ⌜ record { answer = r; list = now (runs .exit) } ≡ runsResult (rowRuns (corners count (now (xs .entry)) (now (ys .entry))) (pathPoints (now (path .entry))) wide row) (now (runs .entry)) ⌝ }
 {
     let mut far: [u16; 16384] = [0; 16384];
@@ -112,7 +112,7 @@ fn several_runs(runs: &mut [u16], xs: &[i8], ys: &[i8], count: usize, path: &[i3
 
 // The runs of the row, cut to the raster.
 pub fn draw_runs(runs: &mut [u16], xs: &[i8], ys: &[i8], count: usize, path: &[i32], wide: usize, row: u64) -> Answer
-    requires { ⌜ coordinateVerdict (now path) ≡ Passed ⌝ ∗ ⌜ 1 ≤ wide ⌝ ∗ ⌜ wide ≤ 16384 ⌝ ∗ ⌜ row ≤ 16383 ⌝ }
+    requires { ⌜ coordinateVerdict (now path) ≡ Passed ⌝ ∗ ⌜ (1 ≤ wide) × (wide ≤ 16384) ⌝ ∗ ⌜ row ≤ 16383 ⌝ }
     ensures { λ r. ⌜ record { answer = r; list = now (runs .exit) } ≡ runsResult (rowRuns (corners count (now (xs .entry)) (now (ys .entry))) (pathPoints (now (path .entry))) wide row) (now (runs .entry)) ⌝ }
 {
     match touch(xs, ys, count, path, wide, row) {
@@ -123,7 +123,7 @@ pub fn draw_runs(runs: &mut [u16], xs: &[i8], ys: &[i8], count: usize, path: &[i
 }
 
 fn pack_several(bytes: &mut [u8], xs: &[i8], ys: &[i8], count: usize, path: &[i32], wide: usize, row: u64)
-    requires { ⌜ packedLength wide ≤ length (now bytes) ⌝ ∗ ⌜ coordinateVerdict (now path) ≡ Passed ⌝ ∗ ⌜ 1 ≤ wide ⌝ ∗ ⌜ wide ≤ 16384 ⌝ ∗ ⌜ row ≤ 16383 ⌝ }
+    requires { ⌜ packedLength wide ≤ length (now bytes) ⌝ ∗ ⌜ coordinateVerdict (now path) ≡ Passed ⌝ ∗ ⌜ (1 ≤ wide) × (wide ≤ 16384) ⌝ ∗ ⌜ row ≤ 16383 ⌝ }
     ensures { λ r. ⌜ now (bytes .exit) ≡ packed (λ x. blackAt (corners count (now (xs .entry)) (now (ys .entry))) (pathPoints (now (path .entry))) (pos row) (pos x)) wide ++ drop (packedLength wide) (now (bytes .entry)) ⌝ }
 {
     let mut far: [u16; 16384] = [0; 16384];
@@ -133,7 +133,7 @@ fn pack_several(bytes: &mut [u8], xs: &[i8], ys: &[i8], count: usize, path: &[i3
 
 // A packed row has one length, known before the row is drawn.
 pub fn draw_packed(bytes: &mut [u8], xs: &[i8], ys: &[i8], count: usize, path: &[i32], wide: usize, row: u64) -> Answer
-    requires { ⌜ coordinateVerdict (now path) ≡ Passed ⌝ ∗ ⌜ 1 ≤ wide ⌝ ∗ ⌜ wide ≤ 16384 ⌝ ∗ ⌜ row ≤ 16383 ⌝ }
+    requires { ⌜ coordinateVerdict (now path) ≡ Passed ⌝ ∗ ⌜ (1 ≤ wide) × (wide ≤ 16384) ⌝ ∗ ⌜ row ≤ 16383 ⌝ }
     ensures { λ r. ⌜ record { answer = r; list = now (bytes .exit) } ≡ packedResult (λ x. blackAt (corners count (now (xs .entry)) (now (ys .entry))) (pathPoints (now (path .entry))) (pos row) (pos x)) wide (now (bytes .entry)) ⌝ }
 {
     let length = length_of(wide);
