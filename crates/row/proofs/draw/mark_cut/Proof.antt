@@ -1,3 +1,6 @@
+-- A cut without columns leaves the array, as the definition says.
+use Rattle.row.specs.Cuts.{farther}
+use mathlib.Core.Path.{_≡_, sym, ap, _∙_}
 use borrow.Author.Needs.{needs}
 use Rattle.row.proofs.draw.mark_cut.Statement.{statement}
 use Rattle.row.proofs.draw.mark_cut.Tie as tie
@@ -19,7 +22,7 @@ returns c = search needs
 
 -- src/draw.rt:62:5
 mark-requires : tie.Need-mark-requires
-mark-requires c κs = ?
+mark-requires c κs = let b = c .before .before .before .before .before .pre _ _ (c .before .before .cut .given .1) in (b .0, b .1)
 
 -- src/draw.rt:55:1
 same-length : tie.Need-same-length
@@ -27,7 +30,7 @@ same-length c = search needs
 
 -- src/draw.rt:55:1
 returns-2 : tie.Need-returns-2
-returns-2 c = ?
+returns-2 c = c .before .before .mark .ensures ∙ sym (ap (farther (c .before .before .before .before .before .before .before .before .args .far .now)) (c .before .before .before .before .before .cut .given .1))
 
 pub mark-cut-spec : {M : Type 1} → statement M
 mark-cut-spec =

@@ -1,52 +1,78 @@
+-- The cuts of the segments passed are in the array, and those after them go on from there.
+use mathlib.Core.List.{List}
+use mathlib.Core.Path.{_≡_, refl, sym, ap, _∙_}
+use Prim.Native.Nat.{ℕ, suc, _-_, _≤_}
+use native.Mathlib.Numerals.{add-one}
+use native.Mathlib.Omega.{arith}
+use lib.IntN.{ℤ}
+use lib.ListN.{length, drop, drop-of-length-le}
+use Rattle.pen.specs.Answer.{corners}
+use Rattle.stroke.specs.Sweep.{segments}
+use Rattle.row.specs.declared.Cut.{Cut}
+use Rattle.row.specs.Answer.{pathPoints}
+use Rattle.row.specs.Cuts.{cuts, farther, farOf}
+use Rattle.row.proofs.Raster.{cuts-long}
+use Rattle.row.proofs.Together.{far-step, far-end}
+use borrow.Author.Needs.{needs}
 use Rattle.row.proofs.draw.put_together.Statement.{statement}
 use Rattle.row.proofs.draw.put_together.Tie as tie
-use Rattle.row.proofs.draw.put_together.Reads as reads
-use Rattle.row.proofs.draw.put_together.Lts as lts
-use Rattle.row.proofs.cuts.cut_at.Reads as cut-at-reads
-use Rattle.row.proofs.cuts.segment_count.Reads as segment-count-reads
-use Rattle.row.proofs.draw.mark_cut.Reads as mark-cut-reads
+
+abbrev rowCuts : List ℤ → List ℤ → ℕ → List ℤ → ℕ → ℕ → List Cut
+rowCuts xs ys count path wide row = cuts (corners count xs ys) (pathPoints path) wide row
 
 abbrev Inv-loop : tie.InvT-loop
-Inv-loop far₀ xs ys count path wide row n k₀ far k = ?
+Inv-loop far₀ xs ys count path wide row n k₀ far k =
+    (k ≤ n) × (n ≡ length (segments (pathPoints path))) × (length far ≡ length far₀) ×
+    (farOf (drop k (rowCuts xs ys count path wide row)) far ≡ farOf (rowCuts xs ys count path wide row) far₀)
 
 abbrev μ-loop : tie.MeasureT-loop
-μ-loop far₀ xs ys count path wide row n k₀ far k = ?
+μ-loop far₀ xs ys count path wide row n k₀ far k = n - k
 
--- src/draw.rt:70:9
+abbrev all : tie.Start Inv-loop μ-loop → List Cut
+all c = rowCuts (c .args .xs .now) (c .args .ys .now) (c .args .count) (c .args .path .now) (c .args .wide) (c .args .row)
+
+all-long : (c : tie.Start Inv-loop μ-loop) → length (all c) ≡ length (segments (pathPoints (c .args .path .now)))
+all-long c = cuts-long (corners (c .args .count) (c .args .xs .now) (c .args .ys .now)) (pathPoints (c .args .path .now)) (c .args .wide) (c .args .row)
+
 segment-count-requires : tie.Need-segment-count-requires Inv-loop μ-loop
-segment-count-requires c κs = ?
+segment-count-requires c κs = search needs
 
--- src/draw.rt:72:5
 loop-holds : tie.Need-loop-holds Inv-loop μ-loop
-loop-holds c = ?
+loop-holds c = (omega arith, c .segment-count .ensures, refl, refl)
 
--- src/draw.rt:73:13
 cut-at-requires : tie.Need-cut-at-requires Inv-loop μ-loop
-cut-at-requires c κs = ?
+cut-at-requires c κs = let p = c .before .before .before .before .pre in (omega (arith, c .before .loop .inv .1), (p .0, (p .1 .0, p .1 .1 .0)))
 
--- src/draw.rt:74:9
 mark-cut-requires : tie.Need-mark-cut-requires Inv-loop μ-loop
-mark-cut-requires c κs = ?
+mark-cut-requires c κs = λ l r e. let p = c .before .before .before .before .before .before .pre in let b = c .before .cut-at .ensures .1 l r e in (omega (arith, b, p .1 .0, p .1 .1 .1, c .before .before .before .loop .inv .2), omega (arith, b, p .1 .0))
 
--- src/draw.rt:75:9
 add-k : tie.Need-add-k Inv-loop μ-loop
-add-k c = ?
+add-k c = search needs
 
--- src/draw.rt:72:5
 loop-less : tie.Need-loop-less Inv-loop μ-loop
-loop-less c = ?
+loop-less c = search needs
 
--- src/draw.rt:72:5
 loop-again : tie.Need-loop-again Inv-loop μ-loop
-loop-again c = ?
+loop-again c =
+    let s = c .before .before .before .before .before .before .before .before .before in
+    let i = c .before .before .before .before .before .before .loop in
+    let k = i .k in
+    (
+      omega (arith, c .before .before .before .before .before .loop-test .taken),
+      i .inv .1,
+      c .before .before .mark-cut .kept .0 ∙ i .inv .2,
+      rw add-one
+      (ap (farOf (drop (suc k) (all s))) (c .before .before .mark-cut .ensures ∙ ap (farther (i .far)) (c .before .before .before .before .cut-at .ensures .0)) ∙ sym (far-step (all s) k (i .far) (omega (arith, all-long s, i .inv .1, c .before .before .before .before .before .loop-test .taken)))
+      ∙ i .inv .3),
+    )
 
--- src/draw.rt:66:1
 same-length : tie.Need-same-length Inv-loop μ-loop
-same-length c = ?
+same-length c = c .before .loop .inv .2
 
--- src/draw.rt:66:1
 returns : tie.Need-returns Inv-loop μ-loop
-returns c = ?
+returns c =
+    let s = c .before .before .before .before in
+    sym (far-end (c .before .loop .far) (drop-of-length-le (all s) {i = c .before .loop .k} (omega (arith, all-long s, c .before .loop .inv .1)))) ∙ c .before .loop .inv .3
 
 pub put-together-spec : {M : Type 1} → statement M
 put-together-spec =
