@@ -11,6 +11,7 @@
 --   PackedRow              the bytes of a packed row: how many, each bit of each, and how a loop fills a buffer with them
 --   PackedSpan, PackedFar  the byte of a span, and the reach from column to column
 --   Together               a row from its cuts, as runs and as a packed row
+--   Calls                  a row call by its cases: the look-up, the checks, the row
 pub mod Records
 pub mod Demands
 pub mod Theorems
@@ -27,3 +28,4 @@ pub mod PackedRow
 pub mod PackedSpan
 pub mod PackedFar
 pub mod Together
+pub mod Calls

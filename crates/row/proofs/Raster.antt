@@ -23,16 +23,11 @@ use Rattle.stroke.specs.Runs.{inSpan, any, blackAt}
 use Rattle.row.specs.declared.Cut.{Cut}
 use Rattle.row.specs.declared.Cut.the-variants as cut·
 use Rattle.row.specs.Cuts.{cutSpan, cuts, inCut, blackCut}
+use Rattle.row.proofs.PackedRow.{same-test}
 
 -- ---- the raster's last column
 last-column : (n : ℕ) → pos (suc n) -ℤ pos 1 ≡ pos n
 last-column n = -ℤ-one (pos (suc n))
-
--- ---- a test with the answer of another
-same-test : (s t : Bool) → (s ≡ true → t ≡ true) → (t ≡ true → s ≡ true) → s ≡ t
-same-test true t f g = sym (f refl)
-same-test false true f g = absurd (clash (g refl) refl)
-same-test false false f g = refl
 
 -- ---- one span
 -- where a is at least 0, the test of the columns from a to b is that of their cut

@@ -2,16 +2,19 @@
 use mathlib.Core.Path.{_≡_, refl, sym, ap, _∙_}
 use mathlib.Core.Bool.{Bool, true, false}
 use mathlib.Core.List.{List, [], _∷_}
-use Prim.Native.Nat.{ℕ, zero, suc, _<_}
+use Prim.Native.Nat.{ℕ, zero, suc, _≤_, _<_}
 use native.Mathlib.Omega.{arith}
+use borrow.Author.Tests.{leb-true, ltb-true}
+use lib.Dec.{leb}
 use lib.ListN.{length, getD, drop}
 use lib.Seq.{drop-cons}
 use lib.IntN.{ℤ, pos}
-use Rattle.pen.specs.Refusal.{Refusal, number, coordinate}
+use Rattle.integers.proofs.Tests.{and-both}
+use Rattle.pen.specs.Refusal.{Refusal, number, coordinate, raster, row}
 use Rattle.stroke.specs.Extent.{inRange}
 use Rattle.row.specs.declared.Verdict.{Verdict}
 use Rattle.row.specs.declared.Verdict.the-variants.{Passed, Refused}
-use Rattle.row.specs.Checks.{refuse, unless, coordinateFrom, _then_}
+use Rattle.row.specs.Checks.{refuse, unless, isSize, pathVerdict, rasterVerdict, rowVerdict, coordinateFrom, coordinateVerdict, _then_, verdict}
 
 -- ---- a test
 pub passed : {t : Bool} (r : Refusal) → t ≡ true → Passed ≡ unless t r
@@ -52,3 +55,27 @@ all-good i (z ∷ l) e k h = go (inRange z) refl e (all-good (suc i) l) k h
     go true q e r zero h = q
     go true q e r (suc k) h = r e k (omega arith)
     go false q e r k h = absurd (let z : _≡_ {A = ℕ} 0 1 = cc in omega arith)
+
+-- ---- a call that passes all checks
+then-both : (u v : Verdict) → (u then v) ≡ Passed → (u ≡ Passed) × (v ≡ Passed)
+then-both Passed v e = (refl, e)
+then-both (Refused n p) v e = absurd (let z : _≡_ {A = ℕ} 0 1 = cc in omega arith)
+
+unless-true : (t : Bool) (r : Refusal) → unless t r ≡ Passed → t ≡ true
+unless-true true r e = refl
+unless-true false r e = absurd (let z : _≡_ {A = ℕ} 0 1 = cc in omega arith)
+
+-- what the drawing asks for
+pub verdict-passed : (p : List ℤ) (columns rows j : ℕ) → verdict p columns rows j ≡ Passed →
+    (coordinateVerdict p ≡ Passed) × ((1 ≤ columns) × (columns ≤ 16384)) × (j ≤ 16383)
+verdict-passed p columns rows j e =
+    let a = then-both (pathVerdict p) (rasterVerdict columns rows then rowVerdict rows j then coordinateVerdict p) e in
+    let b = then-both (rasterVerdict columns rows) (rowVerdict rows j then coordinateVerdict p) (a .1) in
+    let d = then-both (rowVerdict rows j) (coordinateVerdict p) (b .1) in
+    let s = and-both (isSize columns) (isSize rows) (unless-true _ raster (b .0)) in
+    let w = and-both (leb 1 columns) (leb columns 16384) (s .0) in
+    let h = and-both (leb 1 rows) (leb rows 16384) (s .1) in (
+      d .1,
+      (leb-true 1 columns (w .0), leb-true columns 16384 (w .1)),
+      omega (arith, leb-true rows 16384 (h .1), ltb-true j rows (unless-true _ row (d .0))),
+    )

@@ -63,7 +63,15 @@ fn mark_cut(far: &mut [u16], cut: Cut)
 }
 
 // The cuts of all segments in the array.
-fn put_together<'a>(far: &mut [u16], xs: &'a [i8], ys: &'a [i8], count: usize, path: &[i32], wide: usize, row: u64)
+fn put_together<'a>(
+    far: &mut [u16],
+    xs: &'a [i8],
+    ys: &'a [i8],
+    count: usize,
+    path: &[i32],
+    wide: usize,
+    row: u64,
+)
     requires { ⌜ coordinateVerdict (now path) ≡ Passed ⌝ ∗ ⌜ (1 ≤ wide) × (wide ≤ 16384) ⌝ ∗ ⌜ row ≤ 16383 ⌝ ∗ ⌜ wide ≤ length (now far) ⌝ }
     ensures { λ _. ⌜ now (far .exit) ≡ farOf (cuts (corners count (now (xs .entry)) (now (ys .entry))) (pathPoints (now (path .entry))) wide row) (now (far .entry)) ⌝ }
 {
@@ -101,7 +109,15 @@ fn write_far(runs: &mut [u16], far: &[u16], columns: usize) -> Answer
     done(count)
 }
 
-fn several_runs<'a>(runs: &mut [u16], xs: &'a [i8], ys: &'a [i8], count: usize, path: &[i32], wide: usize, row: u64) -> Answer
+fn several_runs<'a>(
+    runs: &mut [u16],
+    xs: &'a [i8],
+    ys: &'a [i8],
+    count: usize,
+    path: &[i32],
+    wide: usize,
+    row: u64,
+) -> Answer
     requires { ⌜ coordinateVerdict (now path) ≡ Passed ⌝ ∗ ⌜ (1 ≤ wide) × (wide ≤ 16384) ⌝ ∗ ⌜ row ≤ 16383 ⌝ }
     ensures { λ r. ⌜ record { answer = r; list = now (runs .exit) } ≡ runsResult (rowRuns (corners count (now (xs .entry)) (now (ys .entry))) (pathPoints (now (path .entry))) wide row) (now (runs .entry)) ⌝ }
 {
@@ -111,7 +127,15 @@ fn several_runs<'a>(runs: &mut [u16], xs: &'a [i8], ys: &'a [i8], count: usize, 
 }
 
 // The runs of the row, cut to the raster.
-pub fn draw_runs<'a>(runs: &mut [u16], xs: &'a [i8], ys: &'a [i8], count: usize, path: &[i32], wide: usize, row: u64) -> Answer
+pub fn draw_runs<'a>(
+    runs: &mut [u16],
+    xs: &'a [i8],
+    ys: &'a [i8],
+    count: usize,
+    path: &[i32],
+    wide: usize,
+    row: u64,
+) -> Answer
     requires { ⌜ coordinateVerdict (now path) ≡ Passed ⌝ ∗ ⌜ (1 ≤ wide) × (wide ≤ 16384) ⌝ ∗ ⌜ row ≤ 16383 ⌝ }
     ensures { λ r. ⌜ record { answer = r; list = now (runs .exit) } ≡ runsResult (rowRuns (corners count (now (xs .entry)) (now (ys .entry))) (pathPoints (now (path .entry))) wide row) (now (runs .entry)) ⌝ }
 {
@@ -122,7 +146,15 @@ pub fn draw_runs<'a>(runs: &mut [u16], xs: &'a [i8], ys: &'a [i8], count: usize,
     }
 }
 
-fn pack_several<'a>(bytes: &mut [u8], xs: &'a [i8], ys: &'a [i8], count: usize, path: &[i32], wide: usize, row: u64)
+fn pack_several<'a>(
+    bytes: &mut [u8],
+    xs: &'a [i8],
+    ys: &'a [i8],
+    count: usize,
+    path: &[i32],
+    wide: usize,
+    row: u64,
+)
     requires { ⌜ packedLength wide ≤ length (now bytes) ⌝ ∗ ⌜ coordinateVerdict (now path) ≡ Passed ⌝ ∗ ⌜ (1 ≤ wide) × (wide ≤ 16384) ⌝ ∗ ⌜ row ≤ 16383 ⌝ }
     ensures { λ r. ⌜ now (bytes .exit) ≡ packed (λ x. blackAt (corners count (now (xs .entry)) (now (ys .entry))) (pathPoints (now (path .entry))) (pos row) (pos x)) wide ++ drop (packedLength wide) (now (bytes .entry)) ⌝ }
 {
@@ -132,7 +164,15 @@ fn pack_several<'a>(bytes: &mut [u8], xs: &'a [i8], ys: &'a [i8], count: usize, 
 }
 
 // The packed row, cut to the raster.
-fn pack_row<'a>(bytes: &mut [u8], xs: &'a [i8], ys: &'a [i8], count: usize, path: &[i32], wide: usize, row: u64)
+fn pack_row<'a>(
+    bytes: &mut [u8],
+    xs: &'a [i8],
+    ys: &'a [i8],
+    count: usize,
+    path: &[i32],
+    wide: usize,
+    row: u64,
+)
     requires { ⌜ packedLength wide ≤ length (now bytes) ⌝ ∗ ⌜ coordinateVerdict (now path) ≡ Passed ⌝ ∗ ⌜ (1 ≤ wide) × (wide ≤ 16384) ⌝ ∗ ⌜ row ≤ 16383 ⌝ }
     ensures { λ r. ⌜ now (bytes .exit) ≡ packed (λ x. blackAt (corners count (now (xs .entry)) (now (ys .entry))) (pathPoints (now (path .entry))) (pos row) (pos x)) wide ++ drop (packedLength wide) (now (bytes .entry)) ⌝ }
 {
@@ -144,7 +184,15 @@ fn pack_row<'a>(bytes: &mut [u8], xs: &'a [i8], ys: &'a [i8], count: usize, path
 }
 
 // A packed row has one length, known before the row is drawn.
-pub fn draw_packed<'a>(bytes: &mut [u8], xs: &'a [i8], ys: &'a [i8], count: usize, path: &[i32], wide: usize, row: u64) -> Answer
+pub fn draw_packed<'a>(
+    bytes: &mut [u8],
+    xs: &'a [i8],
+    ys: &'a [i8],
+    count: usize,
+    path: &[i32],
+    wide: usize,
+    row: u64,
+) -> Answer
     requires { ⌜ coordinateVerdict (now path) ≡ Passed ⌝ ∗ ⌜ (1 ≤ wide) × (wide ≤ 16384) ⌝ ∗ ⌜ row ≤ 16383 ⌝ }
     ensures { λ r. ⌜ record { answer = r; list = now (bytes .exit) } ≡ packedResult (λ x. blackAt (corners count (now (xs .entry)) (now (ys .entry))) (pathPoints (now (path .entry))) (pos row) (pos x)) wide (now (bytes .entry)) ⌝ }
 {

@@ -1,22 +1,15 @@
 -- The length is known before anything is written.
 use Rattle.row.proofs.Together.{packed-fits, packed-exceeds}
 use Rattle.row.specs.Answer.{pathPoints}
-use Rattle.row.specs.declared.Answer.{Answer}
 use Rattle.stroke.specs.Runs.{blackAt}
 use Rattle.pen.specs.Answer.{corners}
 use lib.IntN.{pos}
 use native.Mathlib.Omega.{arith}
-use mathlib.Core.Path.{_≡_, ap, _∙_}
+use mathlib.Core.Path.{ap, _∙_}
 use Prim.Native.Nat.{ℕ}
 use borrow.Author.Needs.{needs}
 use Rattle.row.proofs.draw.draw_packed.Statement.{statement}
 use Rattle.row.proofs.draw.draw_packed.Tie as tie
-use Rattle.row.proofs.draw.draw_packed.Reads as reads
-use Rattle.row.proofs.draw.draw_packed.Lts as lts
-use Rattle.row.proofs.draw.done.Reads as done-reads
-use Rattle.row.proofs.draw.pack_row.Reads as pack-row-reads
-use Rattle.row.proofs.draw.refused.Reads as refused-reads
-use Rattle.row.proofs.packed.length_of.Reads as length-of-reads
 
 -- src/draw.rt:151:9
 length-of-requires : tie.Need-length-of-requires

@@ -5,17 +5,11 @@ use Rattle.row.specs.Answer.{pathPoints, runsResult}
 use Rattle.stroke.specs.Runs.{Run}
 use Rattle.pen.specs.Answer.{corners}
 use native.Mathlib.Omega.{arith}
-use mathlib.Core.List.{List, [], _∷_}
-use mathlib.Core.Path.{_≡_, refl, sym, ap, _∙_}
+use mathlib.Core.List.{List, []}
+use mathlib.Core.Path.{refl, sym, ap, _∙_}
 use borrow.Author.Needs.{needs}
 use Rattle.row.proofs.draw.draw_runs.Statement.{statement}
 use Rattle.row.proofs.draw.draw_runs.Tie as tie
-use Rattle.row.proofs.draw.draw_runs.Reads as reads
-use Rattle.row.proofs.draw.draw_runs.Lts as lts
-use Rattle.row.proofs.cuts.touch.Reads as touch-reads
-use Rattle.row.proofs.draw.done.Reads as done-reads
-use Rattle.row.proofs.draw.several_runs.Reads as several-runs-reads
-use Rattle.row.proofs.draw.write_single.Reads as write-single-reads
 
 -- src/draw.rt:118:11
 touch-requires : tie.Need-touch-requires

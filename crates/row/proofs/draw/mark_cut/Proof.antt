@@ -1,12 +1,9 @@
 -- A cut without columns leaves the array, as the definition says.
 use Rattle.row.specs.Cuts.{farther}
-use mathlib.Core.Path.{_≡_, sym, ap, _∙_}
+use mathlib.Core.Path.{sym, ap, _∙_}
 use borrow.Author.Needs.{needs}
 use Rattle.row.proofs.draw.mark_cut.Statement.{statement}
 use Rattle.row.proofs.draw.mark_cut.Tie as tie
-use Rattle.row.proofs.draw.mark_cut.Reads as reads
-use Rattle.row.proofs.draw.mark_cut.Lts as lts
-use Rattle.row.proofs.far.mark.Reads as mark-reads
 
 -- src/draw.rt:59:22
 enum-known-cut : tie.Need-enum-known-cut

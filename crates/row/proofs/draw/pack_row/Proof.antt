@@ -4,19 +4,12 @@ use Rattle.row.proofs.Touches.{one-in}
 use Rattle.row.specs.Answer.{pathPoints, packedLength}
 use Rattle.pen.specs.Answer.{corners}
 use lib.ListN.{drop}
-use native.Mathlib.Omega.{arith}
 use mathlib.Core.List.{List, _++_}
-use mathlib.Core.Path.{_≡_, sym, ap, _∙_}
+use mathlib.Core.Path.{sym, ap, _∙_}
 use Prim.Native.Nat.{ℕ}
 use borrow.Author.Needs.{needs}
 use Rattle.row.proofs.draw.pack_row.Statement.{statement}
 use Rattle.row.proofs.draw.pack_row.Tie as tie
-use Rattle.row.proofs.draw.pack_row.Reads as reads
-use Rattle.row.proofs.draw.pack_row.Lts as lts
-use Rattle.row.proofs.cuts.touch.Reads as touch-reads
-use Rattle.row.proofs.draw.pack_several.Reads as pack-several-reads
-use Rattle.row.proofs.packed.pack_none.Reads as pack-none-reads
-use Rattle.row.proofs.packed.pack_span.Reads as pack-span-reads
 
 -- src/draw.rt:139:11
 touch-requires : tie.Need-touch-requires

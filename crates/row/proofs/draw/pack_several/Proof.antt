@@ -4,15 +4,11 @@ use Rattle.row.specs.Answer.{pathPoints, packedLength}
 use Rattle.pen.specs.Answer.{corners}
 use lib.ListN.{drop}
 use mathlib.Core.List.{List, _++_}
-use mathlib.Core.Path.{_≡_, ap, _∙_}
+use mathlib.Core.Path.{ap, _∙_}
 use Prim.Native.Nat.{ℕ}
 use borrow.Author.Needs.{needs}
 use Rattle.row.proofs.draw.pack_several.Statement.{statement}
 use Rattle.row.proofs.draw.pack_several.Tie as tie
-use Rattle.row.proofs.draw.pack_several.Reads as reads
-use Rattle.row.proofs.draw.pack_several.Lts as lts
-use Rattle.row.proofs.draw.put_together.Reads as put-together-reads
-use Rattle.row.proofs.packed.pack_far.Reads as pack-far-reads
 
 -- src/draw.rt:130:18
 slice-aggregate-put-together : tie.Need-slice-aggregate-put-together

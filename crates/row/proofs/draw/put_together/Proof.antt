@@ -56,14 +56,13 @@ loop-again : tie.Need-loop-again Inv-loop μ-loop
 loop-again c =
     let s = c .before .before .before .before .before .before .before .before .before in
     let i = c .before .before .before .before .before .before .loop in
-    let k = i .k in
-    (
+    let k = i .k in (
       omega (arith, c .before .before .before .before .before .loop-test .taken),
       i .inv .1,
       c .before .before .mark-cut .kept .0 ∙ i .inv .2,
       rw add-one
-      (ap (farOf (drop (suc k) (all s))) (c .before .before .mark-cut .ensures ∙ ap (farther (i .far)) (c .before .before .before .before .cut-at .ensures .0)) ∙ sym (far-step (all s) k (i .far) (omega (arith, all-long s, i .inv .1, c .before .before .before .before .before .loop-test .taken)))
-      ∙ i .inv .3),
+          (ap (farOf (drop (suc k) (all s))) (c .before .before .mark-cut .ensures ∙ ap (farther (i .far)) (c .before .before .before .before .cut-at .ensures .0)) ∙ sym (far-step (all s) k (i .far) (omega (arith, all-long s, i .inv .1, c .before .before .before .before .before .loop-test .taken)))
+          ∙ i .inv .3),
     )
 
 same-length : tie.Need-same-length Inv-loop μ-loop

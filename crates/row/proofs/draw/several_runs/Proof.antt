@@ -4,14 +4,10 @@ use Rattle.row.specs.Answer.{pathPoints, runsResult}
 use Rattle.stroke.specs.Runs.{Run}
 use Rattle.pen.specs.Answer.{corners}
 use mathlib.Core.List.{List}
-use mathlib.Core.Path.{_≡_, ap, _∙_}
+use mathlib.Core.Path.{ap, _∙_}
 use borrow.Author.Needs.{needs}
 use Rattle.row.proofs.draw.several_runs.Statement.{statement}
 use Rattle.row.proofs.draw.several_runs.Tie as tie
-use Rattle.row.proofs.draw.several_runs.Reads as reads
-use Rattle.row.proofs.draw.several_runs.Lts as lts
-use Rattle.row.proofs.draw.put_together.Reads as put-together-reads
-use Rattle.row.proofs.draw.write_far.Reads as write-far-reads
 
 -- src/draw.rt:109:18
 slice-aggregate-put-together : tie.Need-slice-aggregate-put-together

@@ -1,20 +1,13 @@
 -- The count is that of the runs, so the room is known before anything is written.
 use Rattle.row.specs.Cuts.{blackFar}
-use Rattle.row.specs.declared.Answer.{Answer}
 use Rattle.stroke.specs.Runs.{runsOf}
 use Prim.Native.Nat.{ℕ}
 use Rattle.row.proofs.Together.{runs-fit, runs-exceed}
 use native.Mathlib.Omega.{arith}
-use mathlib.Core.Path.{_≡_, ap, _∙_}
+use mathlib.Core.Path.{ap, _∙_}
 use borrow.Author.Needs.{needs}
 use Rattle.row.proofs.draw.write_far.Statement.{statement}
 use Rattle.row.proofs.draw.write_far.Tie as tie
-use Rattle.row.proofs.draw.write_far.Reads as reads
-use Rattle.row.proofs.draw.write_far.Lts as lts
-use Rattle.row.proofs.draw.done.Reads as done-reads
-use Rattle.row.proofs.draw.refused.Reads as refused-reads
-use Rattle.row.proofs.runs.count_runs.Reads as count-runs-reads
-use Rattle.row.proofs.runs.write_runs.Reads as write-runs-reads
 
 -- src/draw.rt:96:9
 count-runs-requires : tie.Need-count-runs-requires

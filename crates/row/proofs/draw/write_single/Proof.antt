@@ -5,11 +5,6 @@ use native.Mathlib.Omega.{arith}
 use borrow.Author.Needs.{needs}
 use Rattle.row.proofs.draw.write_single.Statement.{statement}
 use Rattle.row.proofs.draw.write_single.Tie as tie
-use Rattle.row.proofs.draw.write_single.Reads as reads
-use Rattle.row.proofs.draw.write_single.Lts as lts
-use Rattle.row.proofs.draw.done.Reads as done-reads
-use Rattle.row.proofs.draw.refused.Reads as refused-reads
-use Rattle.row.proofs.runs.write_one.Reads as write-one-reads
 
 -- src/draw.rt:85:9
 refused-requires : tie.Need-refused-requires
