@@ -154,12 +154,16 @@ looked-case t n = go (isHeld t n) refl
 looked-held : (t : Table) (n i : ℕ) → looked t n ≡ looked·.At i → (isHeld t n ≡ true) × (n - 10 ≡ i)
 looked-held t n i e = elim (looked-case t n) [ inl k ↦ absurd (let z : _≡_ {A = ℕ} 0 1 = cc in omega arith) | inr k ↦ (k .0, cc) ]
 
+-- the place is one of the table's, whatever the table holds
+pub looked-small : (t : Table) (n i : ℕ) → looked t n ≡ looked·.At i → i < 32
+looked-small t n i e = let h = looked-held t n i e in subst (λ (j : ℕ). j < 32) (h .1) (index-small n (held-parts t n (h .0) .0))
+
 pub looked-place : (t : Table) → Reachable t → (n i : ℕ) → looked t n ≡ looked·.At i → (σ : Setting) × Taken σ × (getD (t .places) i vacant ≡ holding σ) × (i < 32)
 looked-place t r n i e =
     let h = looked-held t n i e in
     let b = held-parts t n (h .0) in
     let k = used-holds (sound r n) (b .1) in
-    (k .0, k .1, ap (λ (j : ℕ). getD (t .places) j vacant) (sym (h .1)) ∙ k .2, subst (λ (j : ℕ). j < 32) (h .1) (index-small n (b .0)))
+    (k .0, k .1, ap (λ (j : ℕ). getD (t .places) j vacant) (sym (h .1)) ∙ k .2, looked-small t n i e)
 
 pub looked-refused : (t : Table) (n : ℕ) → looked t n ≡ looked·.Refused → isHeld t n ≡ false
 looked-refused t n e = elim (looked-case t n) [ inl k ↦ k .0 | inr k ↦ absurd (let z : _≡_ {A = ℕ} 0 1 = cc in omega arith) ]

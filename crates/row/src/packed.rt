@@ -1,12 +1,13 @@
 // A packed row: a byte for each eight columns, the leftmost pixel in the highest bit, black 1. A
 // row of one span, and an empty one, are made byte by byte; a row that several segments touch is
 // made from the array `far`, column by column.
+use crate::far::reach_at;
 ghost use mathlib.Core.Path.{_≡_};
 ghost use mathlib.Core.Bool.{false, cond, _&&_};
 ghost use mathlib.Core.List.{_∷_, _++_};
-ghost use Prim.Native.Nat.{_+_, _-_, _*_, _≤_, _<_, min, max};
+ghost use Prim.Native.Nat.{_+_, _-_, _*_, _≤_, _<_, min};
 ghost use lib.Dec.{leb, ltb};
-ghost use lib.ListN.{length, getD, drop};
+ghost use lib.ListN.{length, drop};
 ghost use Rattle.row.specs.Answer.{bitsFrom, packed, packedLength};
 ghost use Rattle.row.specs.Cuts.{reachTo, blackFar};
 
@@ -79,15 +80,6 @@ pub fn pack_none(bytes: &mut [u8], columns: usize)
     pack_between(bytes, columns, 0, 0);
 }
 
-// The further of the reach so far and what starts at column x.
-fn further(far: &[u16], x: usize, reach: u16) -> u16
-    requires { ⌜ x < length (now far) ⌝ }
-    ensures { λ r. ⌜ r ≡ max reach (getD (now (far .entry)) x 0) ⌝ }
-{
-    let here = far[x];
-    if reach < here { here } else { reach }
-}
-
 // One bit more, column x's. A column past the raster is a spare bit, and it leaves the reach, since
 // `far` need not go there. `reachTo (0 ∷ far) x` is the reach of the columns before x.
 fn pack_column(far: &[u16], columns: usize, x: usize, p: Packed) -> Packed
@@ -100,7 +92,7 @@ fn pack_column(far: &[u16], columns: usize, x: usize, p: Packed) -> Packed
             reach: p.reach,
         };
     }
-    let reach = further(far, x, p.reach);
+    let reach = reach_at(far, x, p.reach);
     if x < reach as usize {
         return Packed {
             byte: 2 * p.byte + 1,

@@ -6,6 +6,7 @@ use Prim.Native.Nat.{zero, suc}
 use native.Mathlib.Omega.{arith}
 use lib.Dec.{leb·zero, leb·suc-zero, leb·suc-suc}
 use lib.IntN.{ℤ, pos, negsuc, negℤ}
+use lib.Signed.{ltZ}
 use Rattle.integers.specs.Orders.{_≺_}
 use Rattle.integers.proofs.Ring.{ring, reify}
 use Rattle.integers.proofs.Tests.{lt-iff}
@@ -28,6 +29,11 @@ rightward a b h = rw (lt-iff (pos 0) a .1 h)
 pub down : (b : ℤ) → b ≺ pos 0 → kept (pos 0) b ≡ true
 unfolding kept
 down b h = lt-iff b (pos 0) .1 h
+
+-- of a flat side the part upwards decides
+pub flat : (b : ℤ) → kept (pos 0) b ≡ ltZ b (pos 0)
+unfolding kept
+flat b = refl
 
 pub has : KeptLaws
 has = record { one = one; rightward = rightward; down = down }

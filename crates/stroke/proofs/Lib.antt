@@ -3,13 +3,15 @@
 --   Corners, Support, BothWays         a pen: its corners are a cycle, it reaches no further than they do, and it has edges that rise and edges that fall
 --   Sides, Inside, Greatest, Sweep     the sides of a segment, and theorem 1: in the sweep exactly when within every side
 --   Black                              theorem 2: black exactly when every side allows it, which the test decides
---   Reach, Limits, Extent, Path        theorem 3: the black columns of a row are the extent; and black for a whole path
+--   Reach, Limits, Columns, Path       theorem 3: the black columns of a row are the extent; and black for a whole path
 --   Apart, Runs                        lists of runs that are apart, and theorem 4: the computed runs are the longest, which are unique
 --   Totals                             what the runs of several rows hold together, and in how many rows they cover a column
 --   Window                             how many pixels the strip along a direction has, and the band along a level path
 --   Signs, Furthest, NearEdge, Rising  the black pixels of a middle row are those of the strip
 --   Level                              the black pixels of a middle column of a level path are those of the band
 --   WeightTheorems, Answers            theorems 4, 5 and 6; and line weight over the runs of row answers
+--   Fractions, Narrow, Round           for the code: limits kept as fractions; one side's rule; the edges one after the other
+--   Read, Bits, Answered               the corners that two arrays hold; signed numbers of its functions; the three answers
 --   Theorems                           all claims of specs/Theorems.antt, each under its name there
 pub mod Lists
 pub mod Signs
@@ -24,7 +26,7 @@ pub mod Sweep
 pub mod Black
 pub mod Reach
 pub mod Limits
-pub mod Extent
+pub mod Columns
 pub mod Path
 pub mod Apart
 pub mod Runs
@@ -36,4 +38,10 @@ pub mod Rising
 pub mod Level
 pub mod WeightTheorems
 pub mod Answers
+pub mod Fractions
+pub mod Narrow
+pub mod Read
+pub mod Round
+pub mod Bits
+pub mod Answered
 pub mod Theorems

@@ -13,7 +13,7 @@ use Rattle.stroke.specs.Black.{BlackPath}
 use Rattle.stroke.specs.Extent.{Span, none, columns, In, extent}
 use Rattle.stroke.specs.Runs.{inSpan, blackAt}
 use Rattle.stroke.proofs.Lists.{any-iff}
-use Rattle.stroke.proofs.Extent.{extent-iff}
+use Rattle.stroke.proofs.Columns.{extent-iff}
 
 pub in-span-iff : (s : Span) (i : ℤ) → (inSpan s i ≡ true) ↔ In s i
 in-span-iff none i = ((λ q. clash q refl), λ m. absurd m)

@@ -3,7 +3,7 @@ use Rattle.stroke.specs.Theorems.{KeptHas, SweepSides, BlackTest, Extent
 use Rattle.stroke.proofs.Kept.{has}
 use Rattle.stroke.proofs.Sweep.{sweep-iff}
 use Rattle.stroke.proofs.Black.{test-iff}
-use Rattle.stroke.proofs.Extent.{extent-iff}
+use Rattle.stroke.proofs.Columns.{extent-iff}
 use Rattle.stroke.proofs.WeightTheorems as weights
 
 pub kept-has : KeptHas

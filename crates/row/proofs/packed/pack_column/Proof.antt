@@ -27,8 +27,8 @@ returns c =
     let spare = sym (false-and (ltb (a .x) (a .columns)) (blackFar (a .far .now) (a .x)) (le-ltb (a .x) (a .columns) l)) in
     (omega (arith, bit spare), reach-stays (a .far .now) (a .columns) (a .x) l (p .1 .1))
 
-further-requires : tie.Need-further-requires
-further-requires c κs = search needs
+reach-at-requires : tie.Need-reach-at-requires
+reach-at-requires c κs = search needs
 
 cast-if2 : tie.Need-cast-if2
 cast-if2 c = search needs
@@ -44,7 +44,7 @@ returns-2 c =
     let a = c .before .before .before .before .before .args in
     let p = c .before .before .before .before .before .pre in
     let l = c .before .before .before .if1 .left in
-    let r = reach-on (a .far .now) (a .columns) (a .x) l (p .1 .1) (c .before .before .further .ensures) in
+    let r = reach-on (a .far .now) (a .columns) (a .x) l (p .1 .1) (c .before .before .reach-at .ensures) in
     let b = lt-ltb (a .x) (reachTo (a .far .now) (a .x)) (omega (arith, r .0, c .before .if2 .taken)) in
     (omega (arith, bit (and-true (ltb (a .x) (a .columns)) (blackFar (a .far .now) (a .x)) (lt-ltb (a .x) (a .columns) l) b)), r .1)
 
@@ -56,11 +56,11 @@ returns-3 c =
     let a = c .before .before .before .before .before .args in
     let p = c .before .before .before .before .before .pre in
     let l = c .before .before .before .if1 .left in
-    let r = reach-on (a .far .now) (a .columns) (a .x) l (p .1 .1) (c .before .before .further .ensures) in
+    let r = reach-on (a .far .now) (a .columns) (a .x) l (p .1 .1) (c .before .before .reach-at .ensures) in
     let b = le-ltb (a .x) (reachTo (a .far .now) (a .x)) (omega (arith, r .0, c .before .if2 .left)) in
     (omega (arith, bit (and-false (ltb (a .x) (a .columns)) (blackFar (a .far .now) (a .x)) b)), r .1)
 
 pub pack-column-spec : {M : Type 1} → statement M
 pack-column-spec =
     tie.close
-    (tie.spec mul-t7 returns further-requires cast-if2 mul-t9 add-t10 returns-2 mul-t11 returns-3)
+    (tie.spec mul-t7 returns reach-at-requires cast-if2 mul-t9 add-t10 returns-2 mul-t11 returns-3)
