@@ -1,0 +1,56 @@
+-- The film of the one dot, as the theorem has it.
+use mathlib.Core.Path.{refl, ap, _∙_}
+use mathlib.Core.List.{List, [], _∷_}
+use Rattle.aperture.specs.declared.Table.{Table}
+use Rattle.pbm.specs.Pbm.{lastDigits}
+use Rattle.drawing.specs.Film.{Drawing, film}
+use Rattle.drawing.specs.Cases.{dotPath}
+use Rattle.drawing.proofs.Dot.{dot-film}
+use borrow.Author.Needs.{needs}
+use Rattle.dot.proofs.dot.Statement.{statement}
+use Rattle.dot.proofs.dot.Tie as tie
+
+slice-aggregate-table : tie.Need-slice-aggregate-table
+slice-aggregate-table c = search needs
+
+table-requires : tie.Need-table-requires
+table-requires c κs = search needs
+
+slice-aggregate-put-film : tie.Need-slice-aggregate-put-film
+slice-aggregate-put-film c = search needs
+
+slice-aggregate-put-film-2 : tie.Need-slice-aggregate-put-film-2
+slice-aggregate-put-film-2 c = search needs
+
+slice-aggregate-put-film-3 : tie.Need-slice-aggregate-put-film-3
+slice-aggregate-put-film-3 c = search needs
+
+slice-aggregate-put-film-4 : tie.Need-slice-aggregate-put-film-4
+slice-aggregate-put-film-4 c = search needs
+
+put-film-requires : tie.Need-put-film-requires
+unfolding lastDigits
+put-film-requires c κs = (refl, (refl, (refl, c .before .before .before .before .before .before .before .before .pre)))
+
+same-length : tie.Need-same-length
+same-length c = search needs
+
+returns : tie.Need-returns
+returns c =
+    c .before .before .before .put-film .ensures .1
+    ∙ ap (λ (t : Table). film (record { table = t; apertures = 10 ∷ []; starts = 0 ∷ 2 ∷ []; entries = dotPath }) 5 3) (c .before .before .before .before .before .before .before .before .before .table .ensures)
+    ∙ dot-film
+
+pub dot-spec : {M : Type 1} → statement M
+dot-spec =
+    tie.close
+    (tie.spec
+    slice-aggregate-table
+    table-requires
+    slice-aggregate-put-film
+    slice-aggregate-put-film-2
+    slice-aggregate-put-film-3
+    slice-aggregate-put-film-4
+    put-film-requires
+    same-length
+    returns)

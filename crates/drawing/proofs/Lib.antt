@@ -1,0 +1,6 @@
+-- Over: bytes laid over others. Rows: the table, the rows and the file, one part more at a time.
+-- Packed: rows laid over each other. Dot: document 01's whole file.
+pub mod Over
+pub mod Rows
+pub mod Packed
+pub mod Dot

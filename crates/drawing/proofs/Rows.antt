@@ -1,0 +1,100 @@
+-- The table of a drawing, a row of its film and the whole file, one part more at a time.
+use Prim.Native.Nat.{ℕ, zero, suc, _+_, _*_, _-_, _/_, _≤_, _<_, min}
+use native.Mathlib.Numerals.{add-one}
+use native.Mathlib.Nat.{suc-mul}
+use native.Mathlib.Omega.{arith}
+use mathlib.Core.Path.{_≡_, refl, sym, ap, _∙_}
+use mathlib.Core.Bool.{Bool, true, false}
+use mathlib.Core.List.{List, [], _∷_, _++_, append-assoc, append-nil}
+use lib.Dec.{leb}
+use lib.ListN.{length, getD, take, drop, replicate, length-append, length-drop, drop-of-length-le}
+use lib.Seq.{take-all, take-at, take-nil, drop-nil, length-take-le, slice}
+use lib.IntN.{ℤ}
+use borrow.Author.Tests.{leb-true, leb-false}
+use Rattle.aperture.specs.Table.{empty, defined}
+use Rattle.pbm.specs.Pbm.{isSize, header, topFirst, started, Put, headerPut}
+use Rattle.pbm.proofs.Pieces.{room, whole}
+use Rattle.drawing.specs.Film.{settingAt, tableUpTo, Drawing, pathOf, added, rowUpTo}
+
+pub none : (l : List ℕ) → empty ≡ tableUpTo l 0
+unfolding tableUpTo
+none l = refl
+
+pub one-more : (l : List ℕ) (i : ℕ) → defined (tableUpTo l i) (10 + i) (settingAt l i) .table ≡ tableUpTo l (i + 1)
+unfolding tableUpTo
+one-more l i = rw (add-one i)
+
+-- a part of a list, with its ends brought into the list
+take-min : (l : List ℤ) (e : ℕ) → take (min e (length l)) l ≡ take e l
+take-min l e = go (leb e (length l)) refl
+  where
+    go : (b : Bool) → leb e (length l) ≡ b → take (min e (length l)) l ≡ take e l
+    go true h = let k : min e (length l) ≡ e = omega (arith, leb-true e (length l) h) in ap (λ (n : ℕ). take n l) k
+    go false h =
+        let k : min e (length l) ≡ length l = omega (arith, leb-false e (length l) h) in
+        ap (λ (n : ℕ). take n l) k ∙ take-all (length l) l (omega arith) ∙ sym (take-all e l (omega (arith, leb-false e (length l) h)))
+
+drop-min : (l : List ℤ) (a n : ℕ) → length l ≡ n → drop (min a n) l ≡ drop a l
+drop-min l a n e = go (leb a n) refl
+  where
+    go : (b : Bool) → leb a n ≡ b → drop (min a n) l ≡ drop a l
+    go true h = let k : min a n ≡ a = omega (arith, leb-true a n h) in ap (λ (m : ℕ). drop m l) k
+    go false h =
+        let k : min a n ≡ n = omega (arith, leb-false a n h) in
+        let past : length l ≤ n = omega arith in
+        let far : length l ≤ a = omega (arith, leb-false a n h) in
+        ap (λ (m : ℕ). drop m l) k ∙ drop-of-length-le l past ∙ sym (drop-of-length-le l far)
+
+drop-of-take : (l : List ℤ) (a e : ℕ) → drop a (take e l) ≡ take (e - a) (drop a l)
+drop-of-take [] a e = ap (drop a) (take-nil e) ∙ drop-nil a ∙ sym (ap (take (e - a)) (drop-nil a) ∙ take-nil (e - a))
+drop-of-take (x ∷ l) zero e = let k : e ≡ e - 0 = omega arith in ap (λ (n : ℕ). take n (x ∷ l)) k
+drop-of-take (x ∷ l) (suc a) zero = let k : 0 ≡ 0 - suc a = omega arith in ap (λ (n : ℕ). take n (drop a l)) k
+drop-of-take (x ∷ l) (suc a) (suc e) = let k : e - a ≡ suc e - suc a = omega arith in drop-of-take l a e ∙ ap (λ (n : ℕ). take n (drop a l)) k
+
+pub brought-in : (l : List ℤ) (a e : ℕ) → take (min e (length l) - min a (min e (length l))) (drop (min a (min e (length l))) l) ≡ slice a e l
+brought-in l a e =
+    sym (drop-of-take l (min a (min e (length l))) (min e (length l))) ∙ drop-min (take (min e (length l)) l) a (min e (length l)) (length-take-le _ l (omega arith)) ∙ ap (drop a) (take-min l e)
+
+-- a row with one stroke more
+pub row-none : (d : Drawing) (columns rows j room : ℕ) → replicate room 0 ≡ rowUpTo d columns rows j room 0
+unfolding rowUpTo
+row-none d columns rows j room = refl
+
+pub row-more : (d : Drawing) (columns rows j room k : ℕ) →
+    added (d .table) (getD (d .apertures) k 0) (pathOf (d .starts) (d .entries) k) columns rows j (rowUpTo d columns rows j room k) ≡ rowUpTo d columns rows j room (k + 1)
+unfolding rowUpTo
+row-more d columns rows j room k = ap (rowUpTo d columns rows j room) (sym (add-one k))
+
+-- a row less is left
+pub turn : (row w : ℕ) → 1 ≤ row → row * w ≡ (row - 1) * w + w
+turn zero w h = absurd (omega arith)
+turn (suc r) w h = let e : suc r - 1 ≡ r = omega arith in rw e (suc-mul r w)
+
+-- one row more behind those that are there
+pub put-row : (f : ℕ → List ℕ) (out new rest : List ℕ) (at w row : ℕ) → 1 ≤ row → at ≤ length out → length new ≡ w → new ≡ f (row - 1) →
+    take (at + w) (take at out ++ (new ++ rest)) ++ topFirst (row - 1) f ≡ take at out ++ topFirst row f
+unfolding topFirst
+put-row f out new rest at w zero h k l e = absurd (omega arith)
+put-row f out new rest at w (suc r) h k l e =
+    let n : suc r - 1 ≡ r = omega arith in
+    let long : length (take at out ++ new) ≡ at + w = simp (length-append, length-take-le) (omega arith) in
+    let front : take (at + w) (take at out ++ (new ++ rest)) ≡ take at out ++ new = ap (take (at + w)) (sym (append-assoc (take at out) new rest)) ∙ take-at (take at out ++ new) rest (at + w) long in
+    ap (λ (l : List ℕ). l ++ topFirst (suc r - 1) f) front ∙ append-assoc (take at out) new (topFirst (suc r - 1) f)
+    ∙ ap (λ (l : List ℕ). take at out ++ (l ++ topFirst (suc r - 1) f)) e
+    ∙ ap (λ (m : ℕ). take at out ++ (f m ++ topFirst m f)) n
+
+-- no row is left
+pub last-row : (f : ℕ → List ℕ) (out : List ℕ) (at row : ℕ) → row ≡ 0 → length out ≤ at → out ≡ take at out ++ topFirst row f
+unfolding topFirst
+last-row f out at row e h = sym (take-all at out h) ∙ sym (append-nil (take at out)) ∙ ap (λ (r : ℕ). take at out ++ topFirst r f) (sym e)
+
+-- a header that fits is put whole
+pub put-whole : (columns rows : ℕ) (b : List ℕ) → isSize columns ≡ true → isSize rows ≡ true → length (header columns rows) ≤ length b →
+    headerPut columns rows b ≡ record { count = length (header columns rows); buffer = started (header columns rows) b }
+put-whole columns rows b h k l = sym (whole columns rows b (room columns rows b h k l) refl refl)
+
+-- what stands behind the header is all replaced
+pub replaced : (h new last : List ℕ) (at : ℕ) → take at last ≡ h → take at last ++ (new ++ drop (length last - at) (drop at last)) ≡ h ++ new
+replaced h new last at e =
+    let n : length (drop at last) ≤ length last - at = simp length-drop (omega arith) in
+    ap (λ (l : List ℕ). take at last ++ (new ++ l)) (drop-of-length-le (drop at last) n) ∙ ap (λ (l : List ℕ). take at last ++ l) (append-nil new) ∙ ap (λ (l : List ℕ). l ++ new) e

@@ -1,0 +1,39 @@
+-- Document 01: "The whole PBM file for w=16, dot at (32,16), 5 columns, 3 rows: the characters P4, newline, 5, space, 3, newline; then the bytes 0, 32, 0."
+use mathlib.Core.Path.{_≡_, refl}
+use mathlib.Core.List.{List, [], _∷_}
+use Prim.Native.Nat.{ℕ}
+use lib.IntN.{ℤ, pos}
+use Rattle.pen.specs.declared.Setting.{Setting}
+use Rattle.pen.specs.Setting.{taken, Dx, Dy}
+use Rattle.pen.specs.NearRoot.{norm, lower, tried, bisect, nearRoot}
+use Rattle.pen.specs.Cutting.{amount, retained, corners, quarter}
+use Rattle.pen.specs.Polygon.{upAndBack, onceEach, pen}
+use Rattle.pen.specs.Laws.{chain, edges}
+use Rattle.stroke.specs.Sides.{furthest, sides}
+use Rattle.stroke.specs.Black.{kept}
+use Rattle.stroke.specs.Extent.{inRange, narrowed, extent}
+use Rattle.stroke.specs.Runs.{blackAt}
+use Rattle.row.specs.Answer.{pathPoints, bitsFrom, bytesFrom, packed}
+use Rattle.pbm.specs.Pbm.{lastDigits, topFirst, file}
+use Rattle.drawing.specs.Film.{Drawing, tableOf, film}
+
+abbrev pub dotSetting : Setting
+dotSetting = record { w = 16; p = 1; q = 1 }
+
+abbrev pub dotPath : List ℤ
+dotPath = pos 32 ∷ pos 16 ∷ []
+
+abbrev pub dotBytes : List ℕ
+dotBytes = 80 ∷ 52 ∷ 10 ∷ 53 ∷ 32 ∷ 51 ∷ 10 ∷ 0 ∷ 32 ∷ 0 ∷ []
+
+-- the file of the pixels that are black by the rules
+pub dot-file : file 5 3 (λ j. packed (λ x. blackAt (pen dotSetting) (pathPoints dotPath) (pos j) (pos x)) 5) ≡ dotBytes
+unfolding taken Dx Dy norm lower tried bisect nearRoot amount retained corners quarter upAndBack onceEach pen chain edges furthest sides kept inRange narrowed extent pathPoints bitsFrom bytesFrom lastDigits topFirst
+dot-file = refl
+
+-- the drawing that has this dot only, with aperture 10; its film is that file (proofs/Dot.antt)
+abbrev pub dotDrawing : Drawing
+dotDrawing = record { table = tableOf (16 ∷ 1 ∷ 1 ∷ []); apertures = 10 ∷ []; starts = 0 ∷ 2 ∷ []; entries = dotPath }
+
+abbrev pub DotFilm : Type 0
+DotFilm = film dotDrawing 5 3 ≡ dotBytes

@@ -1,0 +1,58 @@
+-- The film of a drawing: several strokes, each with an aperture of a table.
+use Prim.Native.Nat.{ℕ, zero, suc, _+_, _*_, _/_}
+use mathlib.Core.List.{List, [], _∷_}
+use lib.Bits.{bitOr}
+use lib.ListN.{length, getD, replicate}
+use lib.Seq.{slice}
+use lib.IntN.{ℤ}
+use Rattle.pen.specs.declared.Setting.{Setting}
+use Rattle.aperture.specs.declared.Table.{Table}
+use Rattle.aperture.specs.Table.{empty, defined}
+use Rattle.row.specs.Answer.{packedLength}
+use Rattle.row.specs.Calls.{packedCall}
+use Rattle.pbm.specs.Pbm.{file}
+
+-- the setting at place i of a list of w, p, q, w, p, q, ..
+abbrev pub settingAt : List ℕ → ℕ → Setting
+settingAt l i = record { w = getD l (3 * i) 0; p = getD l (3 * i + 1) 0; q = getD l (3 * i + 2) 0 }
+
+-- the table with the first n settings of a list as apertures 10, 11, ..
+unfoldable pub tableUpTo : List ℕ → ℕ → Table
+tableUpTo l zero = empty
+tableUpTo l (suc i) = defined (tableUpTo l i) (10 + i) (settingAt l i) .table
+
+abbrev pub tableOf : List ℕ → Table
+tableOf l = tableUpTo l (length l / 3)
+
+-- the table, the aperture of each stroke, where each stroke's entries start, with the end of the last, and the entries of all
+pub record Drawing : Type 0 where
+  pub table : Table
+  pub apertures : List ℕ
+  pub starts : List ℕ
+  pub entries : List ℤ
+
+-- the path of stroke k
+abbrev pub pathOf : List ℕ → List ℤ → ℕ → List ℤ
+pathOf starts entries k = slice (getD starts k 0) (getD starts (k + 1) 0) entries
+
+-- bytes with those of another row laid over them: black is 1, so a bit is 1 where either has it
+unfoldable pub laidOver : List ℕ → List ℕ → List ℕ
+laidOver [] s = []
+laidOver (d ∷ ds) [] = d ∷ ds
+laidOver (d ∷ ds) (s ∷ ss) = bitOr d s ∷ laidOver ds ss
+
+-- bytes with row j of one stroke laid over them; a stroke that is refused adds nothing
+abbrev pub added : Table → ℕ → List ℤ → ℕ → ℕ → ℕ → List ℕ → List ℕ
+added t n path columns rows j b = laidOver b (packedCall t n path columns rows j (replicate (length b) 0) .list)
+
+-- so many bytes of row j with the first n strokes
+unfoldable pub rowUpTo : Drawing → ℕ → ℕ → ℕ → ℕ → ℕ → List ℕ
+rowUpTo d columns rows j room zero = replicate room 0
+rowUpTo d columns rows j room (suc k) = added (d .table) (getD (d .apertures) k 0) (pathOf (d .starts) (d .entries) k) columns rows j (rowUpTo d columns rows j room k)
+
+-- so many bytes of row j with all strokes
+abbrev pub rowOf : Drawing → ℕ → ℕ → ℕ → ℕ → List ℕ
+rowOf d columns rows room j = rowUpTo d columns rows j room (length (d .apertures))
+
+abbrev pub film : Drawing → ℕ → ℕ → List ℕ
+film d columns rows = file columns rows (rowOf d columns rows (packedLength columns))
