@@ -1,19 +1,8 @@
 //! The second program: a literal, slow reading of document 01, to compare the
 //! drawer with. See README.md for the commands and their byte streams.
 
-mod extent;
-mod paper;
-mod paper_rows;
-mod pbm;
-mod pen;
-mod pens;
-mod row;
-mod segments;
-mod setting;
-mod stream;
-mod sweep;
-
-use setting::Setting;
+use second::setting::Setting;
+use second::{extent, paper, paper_rows, pbm, pens, row, segments, stream};
 use std::io::{Read, Write};
 use std::process::ExitCode;
 
