@@ -56,7 +56,7 @@ fn run(words: &[&str]) -> Result<(), String> {
             };
             let mut list = vec![0; 4 * number::<usize>(room)?];
             let answer = row::row_answer(&request, &mut list);
-            let runs: Vec<String> = row::records(&list, answer.runs)
+            let runs: Vec<String> = row::records(&list, answer.count)
                 .iter()
                 .map(|(left, right)| format!(" {left}..{right}"))
                 .collect();
@@ -64,7 +64,7 @@ fn run(words: &[&str]) -> Result<(), String> {
                 "{} {} {}{}",
                 answer.refusal,
                 answer.place,
-                answer.runs,
+                answer.count,
                 runs.concat()
             );
             put(format!("{line}\n").as_bytes())
