@@ -1,6 +1,8 @@
 //! The second program as a library: a literal, slow reading of document 01, to
 //! compare the drawer with. `main.rs` has its commands.
 
+pub mod boundary;
+pub mod calls;
 pub mod extent;
 pub mod paper;
 pub mod paper_rows;
