@@ -333,8 +333,7 @@ static struct progress begin(const char *what, uint64_t total)
 static void step(struct progress *progress)
 {
     progress->done++;
-    /* The clock is asked only now and then: a row may take less than that. */
-    if (!progress->terminal || progress->done % 64 != 0)
+    if (!progress->terminal)
         return;
     double now = seconds();
     if (now - progress->start < 1 || now - progress->last < 0.2)
