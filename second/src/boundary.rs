@@ -126,10 +126,14 @@ fn one(
         return Err("the path was changed, or what is next to it".to_string());
     }
     if let Some(at) = (0..expected.len()).find(|&i| room.bytes[i] != expected[i]) {
+        let what = match lent.contains(&at) {
+            true => "differs",
+            false => "does not belong to it and is changed",
+        };
         return Err(format!(
-            "byte {} of the {} that were lent differs\n own bytes     {:?}\n foreign bytes {:?}",
-            at as i64 - room.before as i64,
+            "{} bytes were lent; byte {} {what}\n own bytes     {:?}\n foreign bytes {:?}",
             room.length,
+            at as i64 - room.before as i64,
             &expected[lent.clone()],
             &room.bytes[lent]
         ));
@@ -353,9 +357,7 @@ mod tests {
     fn what_is_wrong_is_caught() {
         let caught = |outcome: Result<String, String>| match outcome {
             Ok(line) => panic!("{line}"),
-            Err(complaint) => {
-                assert!(complaint.contains("differ") || complaint.contains("path was"))
-            }
+            Err(complaint) => assert!(complaint.contains("call ")),
         };
         caught(outcome::<KEEPS_LEFT_SIDES>(2_000));
         caught(outcome::<KEEPS_FLAT_TOPS>(2_000));
