@@ -1,8 +1,9 @@
 /*
- * bench MACHINE: times the library through the C boundary against cairo and against the
+ * bench MACHINE LIBRARY: times the library through the C boundary against cairo and against the
  * second program's fast way, and prints two tables of ratios. bench/run builds and runs it.
  *
- * Of several repetitions the fastest counts. A film is cleared before each one, outside
+ * All take turns, so that what else the machine does falls on each; of several rounds the
+ * fastest counts. A film is cleared before each one, outside
  * the time. Work whose rows would take too long is timed on every n-th row and multiplied
  * by n; such times are marked with ~. The library must draw the fast way's pixels; cairo's
  * pen is another, so that only its number of black pixels is told.
@@ -36,7 +37,7 @@ typedef uint64_t row_function(uint64_t, uint64_t, uint64_t, const uint8_t *, siz
 /* No row of 16,384 columns has more runs. */
 enum { MOST_RUNS = 8192, ROOM = 4 * MOST_RUNS };
 
-/* A contender has about this long, in seconds, for a work. */
+/* A contender has about this long, in seconds, for a work; one round takes half of it at most. */
 static const double patience = 4;
 
 static const char *machine;
@@ -55,10 +56,14 @@ static void *memory(size_t length)
     return bytes;
 }
 
+/*
+ * The time that this process has computed. All contenders are of one thread, so that
+ * nothing of their work is missed, and waiting for a busy machine does not count.
+ */
 static double seconds(void)
 {
     struct timespec now;
-    if (clock_gettime(CLOCK_MONOTONIC, &now) != 0)
+    if (clock_gettime(CLOCK_PROCESS_CPUTIME_ID, &now) != 0)
         give_up("no clock");
     return (double)now.tv_sec + (double)now.tv_nsec * 1e-9;
 }
@@ -310,20 +315,16 @@ static double once(const struct contender *contender, const struct work *work, u
     return (seconds() - start) * (double)n;
 }
 
-static struct timing time_of(const struct contender *contender, const struct work *work,
-                             uint8_t *film)
+/* On every how many rows a contender is timed, by what few of its rows take. */
+static size_t every(const struct contender *contender, const struct work *work, uint8_t *film)
 {
-    struct timing best = {0, 1};
+    size_t n = 1;
     if (contender->by_rows) {
         double guess = once(contender, work, film, 512);
-        while (guess / (double)best.n > patience / 2)
-            best.n *= 2;
+        while (guess / (double)n > patience / 2)
+            n *= 2;
     }
-    double start = seconds();
-    best.seconds = INFINITY;
-    for (int i = 0; i < 20 && (i == 0 || seconds() - start < patience); i++)
-        best.seconds = fmin(best.seconds, once(contender, work, film, best.n));
-    return best;
+    return n;
 }
 
 /* On the rows that were drawn, the library's pixels are those of the fast way. */
@@ -351,12 +352,18 @@ static void films(struct work work)
     fast_film(&work, reference, 1);
     struct timing timings[CONTENDERS];
     unsigned long cairos = 0;
-    for (int i = 0; i < CONTENDERS; i++) {
-        timings[i] = time_of(&contenders[i], &work, film);
-        if (contenders[i].same_pixels)
-            compare(&work, film, reference, timings[i].n);
-        else
-            cairos = black_pixels(film, length);
+    for (int i = 0; i < CONTENDERS; i++)
+        timings[i] = (struct timing){INFINITY, every(&contenders[i], &work, film)};
+    double start = seconds();
+    for (int round = 0; round < 20 && (round < 3 || seconds() - start < patience * CONTENDERS); round++) {
+        for (int i = 0; i < CONTENDERS; i++) {
+            double passed = once(&contenders[i], &work, film, timings[i].n);
+            timings[i].seconds = fmin(timings[i].seconds, passed);
+            if (contenders[i].same_pixels)
+                compare(&work, film, reference, timings[i].n);
+            else
+                cairos = black_pixels(film, length);
+        }
     }
     printf("| %s | %lu | %lu |", work.name, black_pixels(reference, length), cairos);
     for (int i = 0; i < CONTENDERS; i++)
@@ -391,13 +398,13 @@ static void all_films(void)
 
 /* ----------------------------------------------------------------- single calls */
 
-/* Nanoseconds to a call: of batches within a fifth of a second, the fastest counts. */
+/* Nanoseconds to a call: of batches within a twentieth of a second, the fastest counts. */
 static double nanoseconds(row_function *function, const struct work *work, size_t row,
                           uint8_t *room, size_t room_len, unsigned refusal)
 {
     double best = INFINITY, start = seconds();
     size_t batch = 1;
-    while (seconds() - start < 0.2) {
+    while (seconds() - start < 0.05) {
         double from = seconds();
         for (size_t i = 0; i < batch; i++) {
             uint64_t answer =
@@ -418,10 +425,13 @@ static void call(const char *name, struct work work, bool packed, size_t row, si
                  unsigned refusal)
 {
     static uint8_t room[ROOM];
-    double mine = nanoseconds(packed ? zimarolfo_packed_row : zimarolfo_row, &work, row, room,
-                              room_len, refusal);
-    double theirs = nanoseconds(packed ? peer_packed_row : peer_row, &work, row, room, room_len,
-                                refusal);
+    row_function *library = packed ? zimarolfo_packed_row : zimarolfo_row;
+    row_function *fast = packed ? peer_packed_row : peer_row;
+    double mine = INFINITY, theirs = INFINITY;
+    for (int round = 0; round < 4; round++) {
+        mine = fmin(mine, nanoseconds(library, &work, row, room, room_len, refusal));
+        theirs = fmin(theirs, nanoseconds(fast, &work, row, room, room_len, refusal));
+    }
     printf("| %s | %.0f | %.0f | %.2f | %s |\n", name, mine, theirs, mine / theirs, machine);
     fflush(stdout);
     free_work(&work);
@@ -492,18 +502,20 @@ static void single_calls(void)
 
 int main(int argc, char **argv)
 {
-    if (argc != 2) {
-        fprintf(stderr, "usage: bench MACHINE\n");
+    if (argc != 3) {
+        fprintf(stderr, "usage: bench MACHINE LIBRARY\n");
         return 2;
     }
     machine = argv[1];
-    printf("cairo %s on an A1 surface, no antialiasing, round caps and joins. Fast: the second\n"
+    printf("Library: %s.\n"
+           "cairo %s on an A1 surface, no antialiasing, round caps and joins. Fast: the second\n"
            "program's floor divisions over the sides, drawn into a film stroke by stroke (film),\n"
            "and behind the same two functions row by row (rows). Runs are filled into the film\n"
            "here, packed rows or-ed into it; only rows within a stroke's reach are asked for.\n"
-           "Films are cleared before the time runs; the fastest of up to 20 repetitions counts;\n"
-           "~ is timed on every n-th row, times n.\n\n",
-           cairo_version_string());
+           "Films are cleared before the time runs. Times are the process's own computing. All\n"
+           "take turns, and the fastest of 3 to 20 rounds counts; ~ is timed on every n-th row,\n"
+           "times n.\n\n",
+           argv[2], cairo_version_string());
     all_films();
     single_calls();
     return 0;
