@@ -7,14 +7,14 @@ use crate::pen;
 use crate::setting::Setting;
 use crate::stream::Sequence;
 
-const LIMIT: i64 = 262_144;
+pub const LIMIT: i64 = 262_144;
 
-fn between(sequence: &mut Sequence, a: i64, b: i64) -> i64 {
+pub fn between(sequence: &mut Sequence, a: i64, b: i64) -> i64 {
     a + sequence.below((b - a) as u64 + 1) as i64
 }
 
 /// A good setting; every second one small, so that ties are frequent.
-fn some_setting(sequence: &mut Sequence) -> Setting {
+pub fn some_setting(sequence: &mut Sequence) -> Setting {
     loop {
         let widest = if sequence.below(2) == 0 { 128 } else { 512 };
         let w = between(sequence, 16, widest) as u64;
@@ -35,7 +35,7 @@ fn some_setting(sequence: &mut Sequence) -> Setting {
 }
 
 /// What coordinates are multiples of: pixels, half pixels, or nothing much.
-fn some_step(sequence: &mut Sequence) -> i64 {
+pub fn some_step(sequence: &mut Sequence) -> i64 {
     [16, 16, 8, 8, 8, 4, 1][sequence.below(7) as usize]
 }
 
@@ -51,7 +51,7 @@ fn some_coordinate(sequence: &mut Sequence, step: i64) -> i64 {
 }
 
 /// From the first end to the second, for a short segment.
-fn some_way(sequence: &mut Sequence, setting: &Setting, step: i64) -> (i64, i64) {
+pub fn some_way(sequence: &mut Sequence, setting: &Setting, step: i64) -> (i64, i64) {
     let mut sign = |n: i64| if sequence.below(2) == 0 { n } else { -n };
     let (right, up) = (sign(1), sign(1));
     let length = |sequence: &mut Sequence| between(sequence, 1, 1 + 200 / step) * step;
