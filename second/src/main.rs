@@ -12,6 +12,7 @@ const USAGE: &str = "usage: second COMMAND
   compare-pens SETTINGS ANSWERS
   paper-differs
   random-segments N SEED
+  raster-segments N SEED
   extents
   compare-extents RECORDS ANSWERS
   row COLUMNS ROWS ROW ROOM W P Q X Y [X Y ...]
@@ -39,6 +40,10 @@ fn run(words: &[&str]) -> Result<(), String> {
         ["paper-differs"] => put((paper::report() + &paper_rows::report()).as_bytes()),
         ["random-segments", count, seed] => {
             let records = segments::random_segments(number(count)?, number(seed)?);
+            put(&extent::to_bytes(&records))
+        }
+        ["raster-segments", count, seed] => {
+            let records = segments::raster_segments(number(count)?, number(seed)?);
             put(&extent::to_bytes(&records))
         }
         ["extents"] => put(&extent::answers(&input()?)?),

@@ -156,6 +156,30 @@ pub fn random_segments(count: usize, seed: u64) -> Vec<Record> {
     records
 }
 
+/// Such records with rows of a raster, 0 to 16,383: one whose row is not there
+/// is moved by whole rows, which moves its black pixels with it.
+pub fn raster_segments(count: usize, seed: u64) -> Vec<Record> {
+    random_segments(count, seed)
+        .into_iter()
+        .map(|r| {
+            let row = r.row.rem_euclid(16_384);
+            let up = 16 * (row - r.row);
+            let moved = |p: (i32, i32)| (p.0, (i64::from(p.1) + up) as i32);
+            Record {
+                a: moved(r.a),
+                b: moved(r.b),
+                row,
+                ..r
+            }
+        })
+        .filter(|r| {
+            [r.a.1, r.b.1]
+                .iter()
+                .all(|y| (-LIMIT..=LIMIT).contains(&i64::from(*y)))
+        })
+        .collect()
+}
+
 #[cfg(test)]
 mod tests {
     use super::*;
