@@ -1,19 +1,8 @@
 //! The second program: a literal, slow reading of document 01, to compare the
 //! drawer with. See README.md for the commands and their byte streams.
 
-mod extent;
-mod paper;
-mod paper_rows;
-mod pbm;
-mod pen;
-mod pens;
-mod row;
-mod segments;
-mod setting;
-mod stream;
-mod sweep;
-
-use setting::Setting;
+use second::setting::Setting;
+use second::{extent, paper, paper_rows, pbm, pens, row, segments, stream};
 use std::io::{Read, Write};
 use std::process::ExitCode;
 
@@ -23,6 +12,7 @@ const USAGE: &str = "usage: second COMMAND
   compare-pens SETTINGS ANSWERS
   paper-differs
   random-segments N SEED
+  raster-segments N SEED
   extents
   compare-extents RECORDS ANSWERS
   row COLUMNS ROWS ROW ROOM W P Q X Y [X Y ...]
@@ -52,6 +42,10 @@ fn run(words: &[&str]) -> Result<(), String> {
             let records = segments::random_segments(number(count)?, number(seed)?);
             put(&extent::to_bytes(&records))
         }
+        ["raster-segments", count, seed] => {
+            let records = segments::raster_segments(number(count)?, number(seed)?);
+            put(&extent::to_bytes(&records))
+        }
         ["extents"] => put(&extent::answers(&input()?)?),
         ["compare-extents", records, answers] => {
             say(extent::compare(&file(records)?, &file(answers)?))
@@ -67,7 +61,7 @@ fn run(words: &[&str]) -> Result<(), String> {
             };
             let mut list = vec![0; 4 * number::<usize>(room)?];
             let answer = row::row_answer(&request, &mut list);
-            let runs: Vec<String> = row::records(&list, answer.runs)
+            let runs: Vec<String> = row::records(&list, answer.count)
                 .iter()
                 .map(|(left, right)| format!(" {left}..{right}"))
                 .collect();
@@ -75,7 +69,7 @@ fn run(words: &[&str]) -> Result<(), String> {
                 "{} {} {}{}",
                 answer.refusal,
                 answer.place,
-                answer.runs,
+                answer.count,
                 runs.concat()
             );
             put(format!("{line}\n").as_bytes())

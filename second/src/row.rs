@@ -16,19 +16,28 @@ pub struct Request<'a> {
     pub row: u64,
 }
 
-/// A refusal number and the place reported with it; 0 and 0 for "done".
+/// A refusal number and the place reported with it; 0 and 0 for "done", with
+/// the number of runs, or of bytes that a packed row fills.
 #[derive(Clone, Copy, Debug, PartialEq, Eq)]
 pub struct Answer {
     pub refusal: u8,
     pub place: u64,
-    pub runs: usize,
+    pub count: usize,
 }
 
-fn refused(refusal: u8, place: u64) -> Answer {
+pub fn refused(refusal: u8, place: u64) -> Answer {
     Answer {
         refusal,
         place,
-        runs: 0,
+        count: 0,
+    }
+}
+
+pub fn done(count: usize) -> Answer {
+    Answer {
+        refusal: 0,
+        place: 0,
+        count,
     }
 }
 
@@ -46,12 +55,8 @@ fn coordinates(path: &[u8]) -> Option<Vec<i32>> {
     )
 }
 
-/// The black columns of the row within the raster, or the first refusal of
-/// 1 (where 6 stood), 2, 4, 5, 3.
-fn black_columns(request: &Request) -> Result<Vec<u64>, Answer> {
-    let Some(quarter) = pen::quarter(&request.setting) else {
-        return Err(refused(1, 0));
-    };
+/// The path's coordinates, or the first refusal of 2, 4, 5, 3.
+pub fn check_all_but_setting(request: &Request) -> Result<Vec<i32>, Answer> {
     let Some(path) = coordinates(request.path) else {
         return Err(refused(2, 0));
     };
@@ -71,6 +76,16 @@ fn black_columns(request: &Request) -> Result<Vec<u64>, Answer> {
             return Err(refused(3, index as u64));
         }
     }
+    Ok(path)
+}
+
+/// The black columns of the row within the raster, or the first refusal of
+/// 1 (where 6 stood), 2, 4, 5, 3.
+fn black_columns(request: &Request) -> Result<Vec<u64>, Answer> {
+    let Some(quarter) = pen::quarter(&request.setting) else {
+        return Err(refused(1, 0));
+    };
+    let path = check_all_but_setting(request)?;
 
     let pen = pen::whole(&quarter);
     let points: Vec<(i128, i128)> = path
@@ -124,11 +139,7 @@ pub fn row_answer(request: &Request, list: &mut [u8]) -> Answer {
         record[..2].copy_from_slice(&(left as u16).to_le_bytes());
         record[2..].copy_from_slice(&(right as u16).to_le_bytes());
     }
-    Answer {
-        refusal: 0,
-        place: 0,
-        runs: runs.len(),
-    }
+    done(runs.len())
 }
 
 /// The packed row: ceil(columns/8) bytes, the leftmost pixel in the highest
@@ -147,11 +158,7 @@ pub fn packed_row(request: &Request, buffer: &mut [u8]) -> Answer {
     for column in columns {
         packed[(column / 8) as usize] |= 128 >> (column % 8);
     }
-    Answer {
-        refusal: 0,
-        place: 0,
-        runs: 0,
-    }
+    done(length as usize)
 }
 
 /// Coordinates as the path's bytes.
@@ -207,8 +214,8 @@ mod tests {
         fn answer(&self, row: u64, room: usize) -> (Answer, Vec<(u16, u16)>) {
             let mut list = vec![0xEE; 4 * room];
             let answer = row_answer(&self.request(row), &mut list);
-            assert!(list[4 * answer.runs..].iter().all(|&b| b == 0xEE));
-            (answer, records(&list, answer.runs))
+            assert!(list[4 * answer.count..].iter().all(|&b| b == 0xEE));
+            (answer, records(&list, answer.count))
         }
 
         fn row(&self, row: u64) -> Vec<(u16, u16)> {
@@ -275,27 +282,10 @@ mod tests {
         let drawing = Drawing::new(16, &[16, 64, 16, 16, 80, 16, 80, 64]);
         assert_eq!(drawing.row(1), [(1, 5)]);
         assert_eq!(drawing.row(3), [(1, 1), (5, 5)]);
-        assert_eq!(
-            drawing.answer(3, 2).0,
-            Answer {
-                refusal: 0,
-                place: 0,
-                runs: 2
-            }
-        );
+        assert_eq!(drawing.answer(3, 2).0, done(2));
         assert_eq!(drawing.answer(3, 1), (refused(7, 0), vec![]));
         assert_eq!(drawing.answer(3, 0), (refused(7, 0), vec![]));
-        assert_eq!(
-            drawing.answer(0, 0),
-            (
-                Answer {
-                    refusal: 0,
-                    place: 0,
-                    runs: 0
-                },
-                vec![]
-            )
-        );
+        assert_eq!(drawing.answer(0, 0), (done(0), vec![]));
     }
 
     /// "w=64 in direction (1,2): c is 9, so two neighbouring middle rows hold
@@ -333,7 +323,7 @@ mod tests {
             (packed.refusal, packed.place)
         );
         if answer.refusal != 0 {
-            assert_eq!(answer.runs, 0);
+            assert_eq!(answer.count, 0);
             assert!(list.iter().chain(&buffer).all(|&b| b == 0xEE));
         }
         (answer.refusal, answer.place)
@@ -420,18 +410,18 @@ mod tests {
     fn packed_rows() {
         let mut drawing = Drawing::new(48, &[48, 32, 160, 32]);
         let mut buffer = [0xEE; 5];
-        assert_eq!(packed_row(&drawing.request(2), &mut buffer).refusal, 0);
+        assert_eq!(packed_row(&drawing.request(2), &mut buffer), done(3));
         assert_eq!(buffer, [0b0011_1111, 0b1111_0000, 0, 0xEE, 0xEE]);
         drawing.columns = 9;
         let mut buffer = [0xEE; 2];
-        assert_eq!(packed_row(&drawing.request(2), &mut buffer).refusal, 0);
+        assert_eq!(packed_row(&drawing.request(2), &mut buffer), done(2));
         assert_eq!(buffer, [0b0011_1111, 0b1000_0000]);
         let mut short = [0xEE; 1];
         assert_eq!(packed_row(&drawing.request(2), &mut short), refused(7, 0));
         assert_eq!(short, [0xEE]);
         // Records of a list that do not come out even are no room.
         let mut list = [0xEE; 7];
-        assert_eq!(row_answer(&drawing.request(2), &mut list).runs, 1);
+        assert_eq!(row_answer(&drawing.request(2), &mut list), done(1));
         assert_eq!(list, [2, 0, 8, 0, 0xEE, 0xEE, 0xEE]);
         assert_eq!(
             row_answer(&drawing.request(2), &mut list[..3]),

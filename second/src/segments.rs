@@ -7,14 +7,14 @@ use crate::pen;
 use crate::setting::Setting;
 use crate::stream::Sequence;
 
-const LIMIT: i64 = 262_144;
+pub const LIMIT: i64 = 262_144;
 
-fn between(sequence: &mut Sequence, a: i64, b: i64) -> i64 {
+pub fn between(sequence: &mut Sequence, a: i64, b: i64) -> i64 {
     a + sequence.below((b - a) as u64 + 1) as i64
 }
 
 /// A good setting; every second one small, so that ties are frequent.
-fn some_setting(sequence: &mut Sequence) -> Setting {
+pub fn some_setting(sequence: &mut Sequence) -> Setting {
     loop {
         let widest = if sequence.below(2) == 0 { 128 } else { 512 };
         let w = between(sequence, 16, widest) as u64;
@@ -35,7 +35,7 @@ fn some_setting(sequence: &mut Sequence) -> Setting {
 }
 
 /// What coordinates are multiples of: pixels, half pixels, or nothing much.
-fn some_step(sequence: &mut Sequence) -> i64 {
+pub fn some_step(sequence: &mut Sequence) -> i64 {
     [16, 16, 8, 8, 8, 4, 1][sequence.below(7) as usize]
 }
 
@@ -51,7 +51,7 @@ fn some_coordinate(sequence: &mut Sequence, step: i64) -> i64 {
 }
 
 /// From the first end to the second, for a short segment.
-fn some_way(sequence: &mut Sequence, setting: &Setting, step: i64) -> (i64, i64) {
+pub fn some_way(sequence: &mut Sequence, setting: &Setting, step: i64) -> (i64, i64) {
     let mut sign = |n: i64| if sequence.below(2) == 0 { n } else { -n };
     let (right, up) = (sign(1), sign(1));
     let length = |sequence: &mut Sequence| between(sequence, 1, 1 + 200 / step) * step;
@@ -154,6 +154,30 @@ pub fn random_segments(count: usize, seed: u64) -> Vec<Record> {
         });
     }
     records
+}
+
+/// Such records with rows of a raster, 0 to 16,383: one whose row is not there
+/// is moved by whole rows, which moves its black pixels with it.
+pub fn raster_segments(count: usize, seed: u64) -> Vec<Record> {
+    random_segments(count, seed)
+        .into_iter()
+        .map(|r| {
+            let row = r.row.rem_euclid(16_384);
+            let up = 16 * (row - r.row);
+            let moved = |p: (i32, i32)| (p.0, (i64::from(p.1) + up) as i32);
+            Record {
+                a: moved(r.a),
+                b: moved(r.b),
+                row,
+                ..r
+            }
+        })
+        .filter(|r| {
+            [r.a.1, r.b.1]
+                .iter()
+                .all(|y| (-LIMIT..=LIMIT).contains(&i64::from(*y)))
+        })
+        .collect()
 }
 
 #[cfg(test)]

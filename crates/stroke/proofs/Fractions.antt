@@ -4,7 +4,7 @@ use mathlib.Core.Logic.{_⊎_, inl, inr}
 use mathlib.Core.Bool.{Bool, false, cond}
 use native.Mathlib.Omega.{arith}
 use lib.IntN.{ℤ, pos, _+ℤ_, _*ℤ_}
-use lib.Signed.{ltZ}
+use lib.Signed.{ltZ, clashℤ}
 use Rattle.integers.specs.Orders.{_≼_, _≺_}
 use Rattle.integers.specs.Compare.{minZ, maxZ}
 use Rattle.integers.proofs.Ring.{ring, reify, _⊢_}
@@ -14,11 +14,9 @@ use Rattle.integers.proofs.Floor.{floorDiv-lo, le-floorDiv}
 use Rattle.stroke.specs.declared.limit.Fraction.{Fraction}
 use Rattle.stroke.specs.Extent.{Limit, free, at, upper, lower}
 use Rattle.stroke.specs.Held.{lastTo, atMost, atLeast}
+use Rattle.stroke.proofs.Limits.{sixteen}
 
 -- ---- the greater fraction has the greater last column
-sixteen : (a : ℤ) → pos 0 ≺ a → pos 0 ≺ pos 16 *ℤ a
-sixteen = ring 1 _ (λ ρ. simp (reify, ρ) (omega arith))
-
 scaled : (r a s b q : ℤ) → pos 0 ≺ b → (pos 16 *ℤ a) *ℤ q ≼ r → r *ℤ b ≼ s *ℤ a → a *ℤ (q *ℤ (pos 16 *ℤ b)) ≼ a *ℤ s
 scaled = ring 5 _ (λ ρ hb h k. mul-nn (sub-pos hb) (sub-nn h) ⊢ h ⊢ k ⊢ simp (reify, ρ) (omega arith))
 
@@ -44,17 +42,14 @@ one-more : (a b : ℤ) → a ≼ b → a +ℤ pos 1 ≼ b +ℤ pos 1
 one-more = ring 2 _ (λ ρ. simp (reify, ρ) (omega arith))
 
 -- ---- a limit that is given, and one that is not
+pub not-lt : (a b : ℤ) → b ≼ a → ltZ a b ≡ false
+not-lt a b h = elim (ltz a b) [ inl k ↦ clashℤ (k .1) h | inr k ↦ k .0 ]
+
 given : {A : Type 0} (f : Fraction) (x y : A) → pos 0 ≺ f .by → cond (ltZ (pos 0) (f .by)) x y ≡ x
 given f x y h = ap (λ (t : Bool). cond t x y) (lt-iff (pos 0) (f .by) .1 h)
 
 missing : {A : Type 0} (f : Fraction) (x y : A) → f .by ≼ pos 0 → cond (ltZ (pos 0) (f .by)) x y ≡ y
-missing f x y h = ap (λ (t : Bool). cond t x y) (none (f .by) h)
-  where
-    none : (b : ℤ) → b ≼ pos 0 → ltZ (pos 0) b ≡ false
-    none b h = elim (ltz (pos 0) b) [ inl k ↦ absurd (never b (k .1) h) | inr k ↦ k .0 ]
-      where
-        never : (b : ℤ) → pos 0 ≺ b → ¬ (b ≼ pos 0)
-        never = ring 1 _ (λ ρ. simp (reify, ρ) (omega arith))
+missing f x y h = ap (λ (t : Bool). cond t x y) (not-lt (pos 0) (f .by) h)
 
 module _ (f : Fraction) where
   pub most-given : pos 0 ≺ f .by → atMost f ≡ at (lastTo (f .num) (f .by))

@@ -39,7 +39,7 @@ pub has : KeptLaws
 has = record { one = one; rightward = rightward; down = down }
 
 -- ---- from the laws
-neg-pos : (a : ℤ) → a ≺ pos 0 → pos 0 ≺ negℤ a
+pub neg-pos : (a : ℤ) → a ≺ pos 0 → pos 0 ≺ negℤ a
 neg-pos = ring 1 _ (λ ρ. simp (reify, ρ) (omega arith))
 
 neg-neg : (a : ℤ) → pos 0 ≺ a → negℤ a ≺ pos 0

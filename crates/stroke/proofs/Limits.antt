@@ -55,7 +55,7 @@ down = ring 5 _ (λ ρ. simp (reify, ρ) (omega arith))
 past : (q i : ℤ) → (q +ℤ pos 1 ≼ i) ↔ ¬ (i ≼ q)
 past = ring 2 _ (λ ρ. simp (reify, ρ) (omega arith))
 
-sixteen : (a : ℤ) → pos 0 ≺ a → pos 0 ≺ pos 16 *ℤ a
+pub sixteen : (a : ℤ) → pos 0 ≺ a → pos 0 ≺ pos 16 *ℤ a
 sixteen = ring 1 _ (λ ρ. simp (reify, ρ) (omega arith))
 
 sixteen-neg : (a : ℤ) → a ≺ pos 0 → pos 0 ≺ pos 16 *ℤ negℤ a

@@ -1,14 +1,11 @@
--- One side narrows the columns by one of three rules, by the sign of its normal's part to the right.
+-- One side narrows the columns by one of three rules, by the sign of its normal's part to the right; and what is answered of the columns that are left.
 use mathlib.Core.Path.{_≡_, refl, sym, ap, _∙_}
 use mathlib.Core.Bool.{Bool, true, false, cond, _&&_}
-use mathlib.Core.Logic.{inl, inr}
-use native.Mathlib.Omega.{arith}
 use lib.IntN.{ℤ, pos, negℤ, _+ℤ_, _*ℤ_, +ℤ-idl}
-use lib.Signed.{leZ, ltZ}
+use lib.Signed.{leZ}
 use Rattle.integers.specs.Orders.{_≼_, _≺_}
-use Rattle.integers.proofs.Ring.{ring, reify}
-use Rattle.integers.proofs.Order.{le-antisymm}
-use Rattle.integers.proofs.Tests.{lt-iff, ltz}
+use Rattle.integers.proofs.Order.{le-antisymm, lt-le}
+use Rattle.integers.proofs.Tests.{lt-iff}
 use Rattle.pen.specs.Laws.{Side}
 use Rattle.stroke.specs.declared.limit.Fraction.{Fraction}
 use Rattle.stroke.specs.declared.limit.Limits.{Limits}
@@ -16,24 +13,8 @@ use Rattle.stroke.specs.Sweep.{centre}
 use Rattle.stroke.specs.Extent.{none, columns, within, Limit, free, at, room, upper, lower, narrow, spanOf}
 use Rattle.stroke.specs.Answer.{answered}
 use Rattle.stroke.specs.declared.Extent.the-variants as extent·
-use Rattle.stroke.proofs.Fractions.{least-given, least-missing, most-given, most-missing}
 use Rattle.stroke.specs.Held.{lastTo, atMost, atLeast, left, flatLeaves}
-
--- a test that fails
-not-lt : (a b : ℤ) → b ≼ a → ltZ a b ≡ false
-not-lt a b h = elim (ltz a b) [ inl k ↦ absurd (never a b (k .1) h) | inr k ↦ k .0 ]
-  where
-    never : (a b : ℤ) → a ≺ b → ¬ (b ≼ a)
-    never = ring 2 _ (λ ρ. simp (reify, ρ) (omega arith))
-
-lt-not : (a b : ℤ) → a ≺ b → ltZ b a ≡ false
-lt-not a b h = not-lt b a (weak a b h)
-  where
-    weak : (a b : ℤ) → a ≺ b → a ≼ b
-    weak = ring 2 _ (simp reify (omega arith))
-
-pub neg-pos : (a : ℤ) → a ≺ pos 0 → pos 0 ≺ negℤ a
-neg-pos = ring 1 _ (λ ρ. simp (reify, ρ) (omega arith))
+use Rattle.stroke.proofs.Fractions.{not-lt, least-given, least-missing, most-given, most-missing}
 
 module _ (j : ℤ) (e : Side) (s : Limits) where
   -- to the right
@@ -44,7 +25,7 @@ module _ (j : ℤ) (e : Side) (s : Limits) where
   -- to the left
   pub narrow-left : (f : Fraction) → e .a ≺ pos 0 → atLeast f ≡ lower (atLeast (s .least)) (lastTo (negℤ (room j e)) (negℤ (e .a)) +ℤ pos 1) →
       left (record { some = s .some; least = f; most = s .most }) ≡ narrow j e (left s)
-  narrow-left f h k = rw (lt-not (e .a) (pos 0) h, lt-iff (e .a) (pos 0) .1 h) (ap (λ (l : Limit). record { some = s .some; least = l; most = atMost (s .most) }) k)
+  narrow-left f h k = rw (not-lt (pos 0) (e .a) (lt-le (e .a) (pos 0) h), lt-iff (e .a) (pos 0) .1 h) (ap (λ (l : Limit). record { some = s .some; least = l; most = atMost (s .most) }) k)
 
   -- flat: the row's centres are all at the same place along the normal
   flat-within : e .a ≡ pos 0 → flatLeaves (e .b) (e .c) (e .b *ℤ (pos 16 *ℤ j)) ≡ within (centre (pos 0) j) e

@@ -12,8 +12,9 @@ use Rattle.pen.specs.Laws.{Side}
 use Rattle.stroke.specs.declared.limit.Limits.{Limits}
 use Rattle.stroke.specs.Extent.{upper, lower, narrow}
 use Rattle.stroke.specs.Held.{lastTo, atMost, atLeast, left, flatLeaves, Steady}
+use Rattle.stroke.proofs.Kept.{neg-pos}
 use Rattle.stroke.proofs.Bits.{bits, _⊖_, _⊗_, opposite, row-place, ap₃}
-use Rattle.stroke.proofs.Narrow.{neg-pos, narrow-right, narrow-left, narrow-flat}
+use Rattle.stroke.proofs.Narrow.{narrow-right, narrow-left, narrow-flat}
 use borrow.Author.Needs.{needs}
 use Rattle.stroke.proofs.limit.narrow.Statement.{statement}
 use Rattle.stroke.proofs.limit.narrow.Tie as tie

@@ -1,0 +1,80 @@
+-- The checks over a path of bytes, and how small the numbers of a refusal are.
+use Prim.Native.Nat.{ℕ, suc, _+_, _%_, _≤_, _<_}
+use mathlib.Core.Path.{_≡_, refl, subst}
+use mathlib.Core.Bool.{Bool, true, false, _&&_}
+use mathlib.Core.List.{List, [], _∷_}
+use native.Mathlib.Omega.{arith}
+use borrow.Author.Tests.{leb-true, leb-false, lt-leb, eqb-true}
+use lib.Dec.{leb, ltb, eqb}
+use lib.IntN.{ℤ}
+use lib.ListN.{length}
+use Rattle.integers.proofs.Tests.{and-both, and-false}
+use Rattle.pen.specs.Refusal.{Refusal, number, path, raster, row, coordinate}
+use Rattle.stroke.specs.Extent.{inRange}
+use Rattle.row.specs.declared.Verdict.{Verdict}
+use Rattle.row.specs.declared.Verdict.the-variants.{Passed, Refused}
+use Rattle.row.specs.Checks.{refuse, unless, isSize, pathVerdict, rasterVerdict, rowVerdict, coordinateFrom, coordinateVerdict, _then_, verdict}
+use Rattle.host.specs.Host.{entriesOf, bytesVerdict}
+use Rattle.host.proofs.Entries.{entries-length}
+
+-- ---- the length of the bytes
+-- a path with too many entries is refused, whatever else is wrong
+too-long : (p : List ℤ) (columns rows j : ℕ) → 8192 < length p → verdict p columns rows j ≡ Refused 2 0
+too-long p columns rows j h = rw (and-false (leb 1 (length p)) (eqb (length p % 2) 0 && leb (length p) 8192) (and-false (eqb (length p % 2) 0) (leb (length p) 8192) (lt-leb (length p) 8192 h)))
+
+pub bytes-refused : (b : List ℕ) (columns rows j : ℕ) → (eqb (length b % 4) 0 && leb (length b) 32768) ≡ false → bytesVerdict b columns rows j ≡ Refused 2 0
+bytes-refused b columns rows j e = go (eqb (length b % 4) 0) refl e
+  where
+    go : (t : Bool) → eqb (length b % 4) 0 ≡ t → (t && leb (length b) 32768) ≡ false → (unless t path then verdict (entriesOf b) columns rows j) ≡ Refused 2 0
+    go false q e = refl
+    go true q e = too-long (entriesOf b) columns rows j (omega (arith, entries-length b, leb-false (length b) 32768 e, eqb-true (length b % 4) 0 q))
+
+pub bytes-read : (b : List ℕ) (columns rows j : ℕ) → (eqb (length b % 4) 0 && leb (length b) 32768) ≡ true →
+    (bytesVerdict b columns rows j ≡ verdict (entriesOf b) columns rows j) × (length b ≤ 32768)
+bytes-read b columns rows j e = let h = and-both (eqb (length b % 4) 0) (leb (length b) 32768) e in (rw (h .0), leb-true (length b) 32768 (h .1))
+
+-- ---- the numbers of a refusal
+abbrev Small : ℕ → Verdict → Type 0
+Small m Passed = Unit
+Small m (Refused n place) = (1 ≤ n) × (n < 256) × (place ≤ m)
+
+small-unless : (t : Bool) (r : Refusal) (m : ℕ) → 1 ≤ number r → number r < 256 → Small m (unless t r)
+small-unless true r m h k = tt
+small-unless false r m h k = (h, k, omega arith)
+
+-- the index of a bad entry is below the number of entries
+small-coordinate : (i : ℕ) (l : List ℤ) → Small (i + length l) (coordinateFrom i l)
+unfolding coordinateFrom
+small-coordinate i [] = tt
+small-coordinate i (z ∷ l) = go (inRange z) (subst (λ (m : ℕ). Small m (coordinateFrom (suc i) l)) (omega arith) (small-coordinate (suc i) l))
+  where
+    go : (t : Bool) → Small (i + length (z ∷ l)) (coordinateFrom (suc i) l) → Small (i + length (z ∷ l)) (elim t as (λ _. Verdict) [ true ↦ coordinateFrom (suc i) l | false ↦ refuse coordinate i ])
+    go true s = s
+    go false s = (omega arith, omega arith, omega arith)
+
+small-then : (m : ℕ) (u v : Verdict) → Small m u → (u ≡ Passed → Small m v) → Small m (u then v)
+small-then m Passed v s t = t refl
+small-then m (Refused n place) v s t = s
+
+path-short : (p : List ℤ) → pathVerdict p ≡ Passed → length p ≤ 8192
+path-short p e = go (leb 1 (length p) && (eqb (length p % 2) 0 && leb (length p) 8192)) refl e
+  where
+    go : (t : Bool) → (leb 1 (length p) && (eqb (length p % 2) 0 && leb (length p) 8192)) ≡ t → unless t path ≡ Passed → length p ≤ 8192
+    go true q e = leb-true (length p) 8192 (and-both (eqb (length p % 2) 0) (leb (length p) 8192) (and-both (leb 1 (length p)) (eqb (length p % 2) 0 && leb (length p) 8192) q .1) .1)
+    go false q e = absurd (let z : _≡_ {A = ℕ} 0 1 = cc in omega arith)
+
+small-verdict : (p : List ℤ) (columns rows j : ℕ) → Small 8192 (verdict p columns rows j)
+small-verdict p columns rows j =
+    small-then 8192 (pathVerdict p) (rasterVerdict columns rows then rowVerdict rows j then coordinateVerdict p) (small-unless (leb 1 (length p) && (eqb (length p % 2) 0 && leb (length p) 8192)) path 8192 (omega arith) (omega arith))
+    (λ e. small-then 8192 (rasterVerdict columns rows) (rowVerdict rows j then coordinateVerdict p) (small-unless (isSize columns && isSize rows) raster 8192 (omega arith) (omega arith))
+    (λ _. small-then 8192 (rowVerdict rows j) (coordinateVerdict p) (small-unless (ltb j rows) row 8192 (omega arith) (omega arith)) (λ _. short (path-short p e))))
+  where
+    wider : (v : Verdict) {m n : ℕ} → m ≤ n → Small m v → Small n v
+    wider Passed h s = tt
+    wider (Refused n place) h s = (s .0, s .1, omega (arith, s .2))
+
+    short : length p ≤ 8192 → Small 8192 (coordinateVerdict p)
+    short h = wider (coordinateVerdict p) (omega arith) (small-coordinate 0 p)
+
+pub refusal-small : (p : List ℤ) (columns rows j n place : ℕ) → verdict p columns rows j ≡ Refused n place → (1 ≤ n) × (n < 256) × (place ≤ 8192)
+refusal-small p columns rows j n place e = subst (Small 8192) e (small-verdict p columns rows j)

@@ -1,0 +1,95 @@
+// What a row call answers for a pen and a path of bytes.
+use crate::bytes::decode;
+use crate::bytes::encode;
+use pen::Pen;
+use row::Answer;
+ghost use mathlib.Core.Path.{_≡_};
+ghost use Prim.Native.Nat.{_<_};
+ghost use mathlib.Core.Bool.{_&&_};
+ghost use Prim.Native.Nat.{_%_};
+ghost use lib.Dec.{leb, eqb};
+ghost use lib.IntN.{pos};
+ghost use lib.ListN.{length};
+ghost use Rattle.pen.specs.Answer.{penCorners};
+ghost use Rattle.stroke.specs.Runs.{rowRuns, blackAt};
+ghost use Rattle.row.specs.Checks.{verdict};
+ghost use Rattle.row.specs.Answer.{pathPoints};
+ghost use Rattle.host.specs.Host.{entriesOf, coded, bytesVerdict, rowOutcome, packedRowOutcome};
+
+// The three numbers in one.
+fn code(a: Answer) -> u64
+    requires { ⌜ (a .refusal < 256) × (a .place < 16777216) × (a .count < 4294967296) ⌝ }
+    ensures { λ r. ⌜ r ≡ coded (a .refusal) (a .place) (a .count) ⌝ }
+{
+    a.refusal + 256 * a.place + 4294967296 * a.count
+}
+
+// A refusal without a place.
+pub fn refused(number: u64) -> u64
+    ensures { λ r. ⌜ r ≡ coded number 0 0 ⌝ }
+{
+    number
+}
+
+// A row has at most 8192 runs, so a list of that many has room enough, and what is left to compare
+// is the host's own room.
+fn entries_runs(pen: Pen, path: &[i32], columns: u64, rows: u64, row: u64, runs: &mut [u8]) -> u64
+    ensures { λ r. ⌜ record { answer = r; bytes = now (runs .exit) } ≡ rowOutcome (verdict (now (path .entry)) columns rows row) (rowRuns (penCorners pen) (pathPoints (now (path .entry))) columns row) (now (runs .entry)) ⌝ }
+{
+    let mut list: [u16; 16384] = [0; 16384];
+    let a = row::runs_for(pen, path, columns, rows, row, &mut list);
+    if a.refusal != 0 {
+        return code(a);
+    }
+    let count = a.count as usize;
+    if runs.len() / 4 < count {
+        return refused(7);
+    }
+    encode(&list, 2 * count, runs);
+    code(a)
+}
+
+fn entries_packed(
+    pen: Pen,
+    path: &[i32],
+    columns: u64,
+    rows: u64,
+    row: u64,
+    bytes: &mut [u8],
+) -> u64
+    ensures { λ r. ⌜ record { answer = r; bytes = now (bytes .exit) } ≡ packedRowOutcome (verdict (now (path .entry)) columns rows row) (λ x. blackAt (penCorners pen) (pathPoints (now (path .entry))) (pos row) (pos x)) columns (now (bytes .entry)) ⌝ }
+{
+    let a = row::packed_for(pen, path, columns, rows, row, bytes);
+    code(a)
+}
+
+// Whether so many bytes can be a path: fours, and no more than a path may have.
+fn is_path(length: usize) -> bool
+    ensures { λ r. ⌜ r ≡ (eqb (length % 4) 0 && leb length 32768) ⌝ }
+{
+    length % 4 == 0 && length <= 32768
+}
+
+pub fn runs(pen: Pen, path: &[u8], columns: u64, rows: u64, row: u64, runs: &mut [u8]) -> u64
+    ensures { λ r. ⌜ record { answer = r; bytes = now (runs .exit) } ≡ rowOutcome (bytesVerdict (now (path .entry)) columns rows row) (rowRuns (penCorners pen) (pathPoints (entriesOf (now (path .entry)))) columns row) (now (runs .entry)) ⌝ }
+{
+    if !is_path(path.len()) {
+        return refused(2);
+    }
+    let n = path.len() / 4;
+    let mut entries: [i32; 8192] = [0; 8192];
+    decode(path, &mut entries);
+    entries_runs(pen, &entries[..n], columns, rows, row, runs)
+}
+
+pub fn packed(pen: Pen, path: &[u8], columns: u64, rows: u64, row: u64, bytes: &mut [u8]) -> u64
+    ensures { λ r. ⌜ record { answer = r; bytes = now (bytes .exit) } ≡ packedRowOutcome (bytesVerdict (now (path .entry)) columns rows row) (λ x. blackAt (penCorners pen) (pathPoints (entriesOf (now (path .entry)))) (pos row) (pos x)) columns (now (bytes .entry)) ⌝ }
+{
+    if !is_path(path.len()) {
+        return refused(2);
+    }
+    let n = path.len() / 4;
+    let mut entries: [i32; 8192] = [0; 8192];
+    decode(path, &mut entries);
+    entries_packed(pen, &entries[..n], columns, rows, row, bytes)
+}

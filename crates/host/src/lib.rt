@@ -1,0 +1,51 @@
+// The row answer and the packed row for a host program in C: numbers and byte slices only.
+//
+// The way of the data: the setting's pen, the path's coordinates from bytes (bytes), the row's
+// answer (answer), and the answer in one number.
+ghost use mathlib.Core.Path.{_≡_};
+ghost use Rattle.host.specs.Host.{hostRow, hostPackedRow};
+
+mod answer;
+mod bytes;
+
+// The black runs of a row, four bytes each: left and right column, lowest byte first.
+#[no_mangle]
+pub extern "C" fn zimarolfo_row(
+    w: u64,
+    p: u64,
+    q: u64,
+    path: &[u8],
+    columns: u64,
+    rows: u64,
+    row: u64,
+    runs: &mut [u8],
+) -> u64
+    ensures { λ r. ⌜ record { answer = r; bytes = now (runs .exit) } ≡ hostRow (record { w = w; p = p; q = q }) (now (path .entry)) columns rows row (now (runs .entry)) ⌝ }
+{
+    let built = pen::build(w, p, q);
+    if built.refusal != 0 {
+        return answer::refused(1);
+    }
+    answer::runs(built.pen, path, columns, rows, row, runs)
+}
+
+// The same row as packed bits.
+#[no_mangle]
+pub extern "C" fn zimarolfo_packed_row(
+    w: u64,
+    p: u64,
+    q: u64,
+    path: &[u8],
+    columns: u64,
+    rows: u64,
+    row: u64,
+    bytes: &mut [u8],
+) -> u64
+    ensures { λ r. ⌜ record { answer = r; bytes = now (bytes .exit) } ≡ hostPackedRow (record { w = w; p = p; q = q }) (now (path .entry)) columns rows row (now (bytes .entry)) ⌝ }
+{
+    let built = pen::build(w, p, q);
+    if built.refusal != 0 {
+        return answer::refused(1);
+    }
+    answer::packed(built.pen, path, columns, rows, row, bytes)
+}

@@ -1,0 +1,18 @@
+//! The second program as a library: a literal, slow reading of document 01, to
+//! compare the drawer with. `main.rs` has its commands.
+
+pub mod abi;
+pub mod boundary;
+pub mod calls;
+pub mod extent;
+pub mod fast;
+pub mod paper;
+pub mod paper_rows;
+pub mod pbm;
+pub mod pen;
+pub mod pens;
+pub mod row;
+pub mod segments;
+pub mod setting;
+pub mod stream;
+pub mod sweep;
