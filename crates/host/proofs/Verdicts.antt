@@ -36,9 +36,9 @@ bytes-read b columns rows j e = let h = and-both (eqb (length b % 4) 0) (leb (le
 -- ---- the numbers of a refusal
 abbrev Small : ℕ → Verdict → Type 0
 Small m Passed = Unit
-Small m (Refused n place) = (1 ≤ n) × (n < 256) × (place ≤ m)
+Small m (Refused n place) = (1 ≤ n) × (n < 7) × (place ≤ m)
 
-small-unless : (t : Bool) (r : Refusal) (m : ℕ) → 1 ≤ number r → number r < 256 → Small m (unless t r)
+small-unless : (t : Bool) (r : Refusal) (m : ℕ) → 1 ≤ number r → number r < 7 → Small m (unless t r)
 small-unless true r m h k = tt
 small-unless false r m h k = (h, k, omega arith)
 
@@ -76,5 +76,5 @@ small-verdict p columns rows j =
     short : length p ≤ 8192 → Small 8192 (coordinateVerdict p)
     short h = wider (coordinateVerdict p) (omega arith) (small-coordinate 0 p)
 
-pub refusal-small : (p : List ℤ) (columns rows j n place : ℕ) → verdict p columns rows j ≡ Refused n place → (1 ≤ n) × (n < 256) × (place ≤ 8192)
+pub refusal-small : (p : List ℤ) (columns rows j n place : ℕ) → verdict p columns rows j ≡ Refused n place → (1 ≤ n) × (n < 7) × (place ≤ 8192)
 refusal-small p columns rows j n place e = subst (Small 8192) e (small-verdict p columns rows j)
