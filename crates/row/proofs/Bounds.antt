@@ -1,5 +1,5 @@
 -- The bounds of the cuts in an array: each cut more keeps them, and no column outside them is black.
-use mathlib.Core.Path.{_≡_, refl, sym, ap, ap₂, _∙_, subst}
+use mathlib.Core.Path.{_≡_, refl, sym, ap₂, _∙_, subst}
 use mathlib.Core.Bool.{Bool, true, false, cond}
 use mathlib.Core.List.{List, []}
 use Prim.Native.Nat.{ℕ, zero, suc, _+_, min, max, _≤_, _<_}
@@ -8,7 +8,7 @@ use native.Mathlib.Omega.{arith}
 use native.Mathlib.Decide.{decLe, le-ind}
 use borrow.Author.Tests.{ltb-false, lt-ltb, le-ltb}
 use lib.Dec.{ltb}
-use lib.ListN.{length, getD, set, replicate, length-replicate, getD-replicate, List·getD-eq-default}
+use lib.ListN.{getD, set, replicate, length-replicate, getD-replicate, List·getD-eq-default}
 use lib.Seq.{getD-set-other}
 use Rattle.stroke.specs.Runs.{runsOf}
 use Rattle.row.specs.Cuts.{farther, wider, Bounded, reachTo, blackFar}
@@ -53,8 +53,12 @@ module _ (far : List ℕ) (b : Bounds) (wide : ℕ) (h : Bounded far (b .first) 
       go : (t : Bool) → ltb 0 (b .end) ≡ t →
           let m : Bounds = cond t (record { first = min (b .first) l; end = max (b .end) (suc r) }) (record { first = l; end = suc r }) in
           Bounded (farther far (cut·.Columns l r)) (m .first) (m .end) × (m .end ≤ wide)
-      go true e = (bounded-marked l (suc r) (min (b .first) l) (max (b .end) (suc r)) h (omega (arith, w l r refl)) (omega arith) (omega arith) (omega arith) (λ x q. h .clear-before x (omega arith)), omega (arith, w l r refl))
-      go false e = let z = ltb-false 0 (b .end) e in (bounded-marked l (suc r) l (suc r) h (omega (arith, w l r refl)) (omega arith) (omega arith) (omega arith) (λ x q. clear-all h z x), omega (arith, w l r refl))
+      go true e =
+          let m = bounded-marked l (suc r) (min (b .first) l) (max (b .end) (suc r)) h (omega (arith, w l r refl)) (omega arith) (omega arith) (omega arith) (λ x q. h .clear-before x (omega arith)) in
+          (m, omega (arith, w l r refl))
+      go false e =
+          let z = ltb-false 0 (b .end) e in
+          (bounded-marked l (suc r) l (suc r) h (omega (arith, w l r refl)) (omega arith) (omega arith) (omega arith) (λ x q. clear-all h z x), omega (arith, w l r refl))
 
   pub bounded-next : (c : Cut) {far′ : List ℕ} {b′ : Bounds} → ((l r : ℕ) → c ≡ cut·.Columns l r → (l ≤ r) × (r < wide)) → far′ ≡ farther far c → b′ ≡ wider b c →
       Bounded far′ (b′ .first) (b′ .end) × (b′ .end ≤ wide)
@@ -103,4 +107,5 @@ module _ {far : List ℕ} {first end : ℕ} (h : Bounded far first end) where
   -- ---- and ends at their end: the columns after it make no run
   pub runs-end : (n : ℕ) → end ≤ n → runsOf (blackFar far) end ≡ runsOf (blackFar far) n
   runs-end = le-ind (λ n. runsOf (blackFar far) end ≡ runsOf (blackFar far) n) refl
-      (λ n k e. e ∙ sym (grown-clear (subst (λ (t : Bool). Grown n (runsOf (blackFar far) n) (before false (blackFar far) n) t (runsOf (blackFar far) (suc n))) (black-past n k) (runs-grown (blackFar far) n))))
+      (λ n k e. e
+      ∙ sym (grown-clear (subst (λ (t : Bool). Grown n (runsOf (blackFar far) n) (before false (blackFar far) n) t (runsOf (blackFar far) (suc n))) (black-past n k) (runs-grown (blackFar far) n))))

@@ -174,8 +174,8 @@ fn pack_several<'a>(
     ensures { λ r. ⌜ now (bytes .exit) ≡ packed (λ x. blackAt (corners count (now (xs .entry)) (now (ys .entry))) (pathPoints (now (path .entry))) (pos row) (pos x)) wide ++ drop (packedLength wide) (now (bytes .entry)) ⌝ }
 {
     let mut far: [u16; 16384] = [0; 16384];
-    put_together(&mut far, xs, ys, count, path, wide, row);
-    pack_far(bytes, wide, &far);
+    let b = put_together(&mut far, xs, ys, count, path, wide, row);
+    pack_far(bytes, wide, &far, b.first, b.end);
 }
 
 // The packed row, cut to the raster.

@@ -1,4 +1,4 @@
--- The array starts clear, so its black columns are those of the cuts.
+-- The array starts clear, so its black columns are those of the cuts; none lies outside their bounds.
 use Rattle.row.proofs.Bounds.{clear-at}
 use Rattle.row.proofs.Together.{packed-array}
 use Rattle.row.specs.Answer.{pathPoints, packedLength}
@@ -25,7 +25,10 @@ slice-aggregate-pack-far c = search needs
 
 -- src/draw.rt:131:5
 pack-far-requires : tie.Need-pack-far-requires
-pack-far-requires c κs = search needs
+pack-far-requires c κs =
+    let p = c .before .before .before .before .before .before .pre in
+    let e = c .before .before .before .put-together .ensures in
+    (search needs, (p .1 .1 .0 .1, (p .0, (e .1 .1, e .1 .0))))
 
 -- src/draw.rt:125:1
 same-length : tie.Need-same-length
