@@ -83,6 +83,10 @@ unfolding runsOf runsFrom
 runs-grown f zero = one-column (f 0) 0
 runs-grown f (suc i) = from-grown f 0 i i (omega arith)
 
+-- a clear column leaves them
+pub grown-clear : {i : ℕ} {joined : Bool} {rs ss : List Run} → Grown i rs joined false ss → ss ≡ rs
+grown-clear clear = refl
+
 -- ---- how many runs
 -- a later end of the last run leaves their number, which is not 0
 pub longer-some : {i : ℕ} {rs ss : List Run} → Longer i rs ss → 1 ≤ length rs

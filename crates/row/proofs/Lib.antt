@@ -8,6 +8,7 @@
 --   Marked                 a row put together in an array: its black columns are those of the cuts
 --   OneRun                 the runs of a row that one cut or none touches
 --   Grown, Listed, Pass    the runs from left to right: what one column more does to them, to the list that holds them, and to what the pass knows
+--   Bounds                 the bounds of the cuts: no column outside them is black
 --   PackedRow              the bytes of a packed row: how many, each bit of each, and how a loop fills a buffer with them
 --   PackedSpan, PackedFar  the byte of a span, and the reach from column to column
 --   Together               a row from its cuts, as runs and as a packed row
@@ -23,6 +24,7 @@ pub mod Marked
 pub mod OneRun
 pub mod Grown
 pub mod Listed
+pub mod Bounds
 pub mod Pass
 pub mod PackedRow
 pub mod PackedSpan

@@ -100,7 +100,7 @@ far-length (cut·.Nothing ∷ cs) far = far-length cs far
 far-length (cut·.Columns l r ∷ cs) far = far-length cs (farther far (cut·.Columns l r)) ∙ length-set far l (max (getD far l 0) (suc r))
 
 -- a store of a number up to n keeps a list whose entries all are up to n
-set-low : (far : List ℕ) (l v n : ℕ) → v ≤ n → ((i : ℕ) → getD far i 0 ≤ n) → (i : ℕ) → getD (set far l v) i 0 ≤ n
+pub set-low : (far : List ℕ) (l v n : ℕ) → v ≤ n → ((i : ℕ) → getD far i 0 ≤ n) → (i : ℕ) → getD (set far l v) i 0 ≤ n
 set-low [] l v n h k i = k i
 set-low (a ∷ far) zero v n h k zero = h
 set-low (a ∷ far) zero v n h k (suc i) = k (suc i)

@@ -5,18 +5,20 @@ use mathlib.Core.List.{List, _∷_}
 use native.Mathlib.Nat.{zero-max}
 use native.Mathlib.Omega.{arith}
 use lib.ListN.{getD}
-use Rattle.row.specs.Cuts.{reachTo}
-
--- before the first column there is none
-pub reach-none : (far : List ℕ) → 0 ≡ reachTo (0 ∷ far) 0
-unfolding reachTo
-reach-none far = refl
+use Rattle.row.specs.Cuts.{Bounded, reachTo}
+use Rattle.row.proofs.Bounds.{reach-clear}
 
 -- before the column after x is up to x
 pub reach-before : (far : List ℕ) (x : ℕ) → reachTo (0 ∷ far) (suc x) ≡ reachTo far x
 unfolding reachTo
 reach-before far zero = zero-max (getD far 0 0)
 reach-before far (suc x) = ap (λ (r : ℕ). max r (getD far (suc x) 0)) (reach-before far x)
+
+-- up to the first column between the bounds there is none
+pub reach-none : {far : List ℕ} {first end : ℕ} → Bounded far first end → (x : ℕ) → x ≤ first → 0 ≡ reachTo (0 ∷ far) x
+unfolding reachTo
+reach-none b zero h = refl
+reach-none {far} b (suc x) h = sym (reach-before far x ∙ reach-clear b x (omega arith))
 
 -- a column of the raster: the further of the reach before it and what starts there
 pub reach-on : (far : List ℕ) (columns x : ℕ) {p r : ℕ} → x < columns → p ≡ reachTo (0 ∷ far) (min x columns) → r ≡ max p (getD far x 0) →

@@ -1,4 +1,5 @@
--- The bytes of a packed row: how many there are, what each bit of them is, and how a loop fills a buffer with them one after the other.
+-- The bytes of a packed row: how many there are, what each bit of them is, and how a loop fills a buffer with them one after the other, or, where the
+-- buffer is clear, with those between the first black column and the last.
 use Prim.Native.Nat.{ℕ, zero, suc, _+_, _-_, _*_, _/_, _%_, _^_, _≤_, _<_}
 use mathlib.Core.Path.{_≡_, refl, sym, ap, _∙_, subst, fun-ext}
 use mathlib.Core.Logic.{_⊎_, inl, inr}
@@ -7,11 +8,13 @@ use mathlib.Core.List.{List, [], _∷_, _++_}
 use native.Mathlib.Nat.{add-zero, zero-add, div-one, zero-div, zero-mod, pow-suc, div-div-eq-div-mul, div-lt-iff-lt-mul}
 use native.Mathlib.Numerals.{add-one}
 use native.Mathlib.Omega.{arith}
+use native.Mathlib.Decide.{le-ind}
 use borrow.Author.Tests.{ltb-true, ltb-false, le-ltb}
 use lib.Dec.{ltb}
-use lib.ListN.{length, getD, set, drop, length-append, length-drop, List·getD-eq-default}
-use lib.Seq.{drop-cons, set-at, append-snoc}
+use lib.ListN.{length, getD, set, drop, length-append, length-drop, List·getD-append, List·getD-eq-default}
+use lib.Seq.{drop-cons, drop-at, set-at, append-snoc}
 use lib.Pow.{pow-pos}
+use Rattle.integers.proofs.Tests.{and-false}
 use Rattle.row.specs.Answer.{bitsFrom, bytesFrom, packed, packedLength}
 
 -- ---- tests
@@ -165,3 +168,51 @@ fill-more f n d {b} {v} l e h =
     ∙ set-at (bytesFrom f 0 n) (getD d n 0) (drop (suc n) d) v n (length-bytes f n 0) ∙ sym (append-snoc (bytesFrom f 0 n) v (drop (suc n) d))
     ∙ ap (λ (u : ℕ). bytesFrom f 0 n ++ (u ∷ []) ++ drop (suc n) d) (h ∙ ap (λ (i : ℕ). bitsFrom f i 8 0) (sym (zero-add (8 * n))))
     ∙ ap (λ (r : List ℕ). r ++ drop (suc n) d) (sym (bytes-snoc f n 0)) ∙ ap (λ (m : ℕ). filled f m d) (sym (add-one n))
+
+-- ---- a row over a clear one
+-- a buffer that holds n bytes of row g, and bytes of row f over them
+module _ (f g : ℕ → Bool) (n : ℕ) (d : List ℕ) (h : n ≤ length d) where
+  held : (k : ℕ) → k < n → getD (filled g n d) k 0 ≡ bitsFrom g (0 + 8 * k) 8 0
+  held k l = List·getD-append (bytesFrom g 0 n) (drop n d) 0 k (omega (arith, length-bytes g n 0)) ∙ getD-bytes g n k 0 l
+
+  -- a byte in which the rows agree is there already
+  over-byte : (k : ℕ) → k < n → bitsFrom f (0 + 8 * k) 8 0 ≡ bitsFrom g (0 + 8 * k) 8 0 → filled f k (filled g n d) ≡ filled f (suc k) (filled g n d)
+  over-byte k l e =
+      ap (λ (r : List ℕ). bytesFrom f 0 k ++ r) (drop-cons (filled g n d) k 0 (omega (arith, fill-length g n d {b = filled g n d} h refl)))
+      ∙ ap (λ (u : ℕ). bytesFrom f 0 k ++ u ∷ drop (suc k) (filled g n d)) (held k l ∙ sym e)
+      ∙ sym (append-snoc (bytesFrom f 0 k) (bitsFrom f (0 + 8 * k) 8 0) (drop (suc k) (filled g n d)))
+      ∙ ap (λ (r : List ℕ). r ++ drop (suc k) (filled g n d)) (sym (bytes-snoc f k 0))
+
+  -- so are all the bytes between columns in which they agree
+  over-more : (j k : ℕ) → j ≤ k → k ≤ n → ((x : ℕ) → 8 * j ≤ x → x < 8 * k → f x ≡ g x) → filled f j (filled g n d) ≡ filled f k (filled g n d)
+  over-more j = le-ind (λ k. k ≤ n → ((x : ℕ) → 8 * j ≤ x → x < 8 * k → f x ≡ g x) → filled f j (filled g n d) ≡ filled f k (filled g n d))
+      (λ m e. refl)
+      (λ k l q m e. q (omega arith) (λ x a b. e x a (omega arith))
+      ∙ over-byte k (omega arith) (bits-ext f g 8 (0 + 8 * k) (0 + 8 * k) 0 (λ b a. e (0 + 8 * k + b) (omega arith) (omega arith))))
+
+  -- all bytes of row f leave none of row g
+  over-all : filled f n (filled g n d) ≡ filled f n d
+  over-all = ap (λ (r : List ℕ). bytesFrom f 0 n ++ r) (drop-at (bytesFrom g 0 n) (drop n d) n (length-bytes g n 0))
+
+-- the bytes of a row with no black column are 0
+pub byte-clear : (columns i : ℕ) → 0 ≡ bitsFrom (λ x. ltb x columns && false) i 8 0
+unfolding bitsFrom
+byte-clear columns i = sym (bits-ext (λ x. ltb x columns && false) (λ _. false) 8 i 0 0 (λ b l. and-false (ltb (i + b) columns) false refl))
+
+-- a buffer b in which the row is cleared
+module _ (f : ℕ → Bool) (columns : ℕ) (d : List ℕ) (h : packedLength columns ≤ length d) {b : List ℕ} (e : b ≡ packed (λ _. false) columns ++ drop (packedLength columns) d) where
+  -- holds the bytes of the columns before the first black one
+  pub fill-from : (j : ℕ) → j ≤ packedLength columns → ((x : ℕ) → x < 8 * j → f x ≡ false) → b ≡ filled (λ x. ltb x columns && f x) j b
+  fill-from j l k =
+      e ∙ fill-none (λ x. ltb x columns && f x) _
+      ∙ over-more (λ x. ltb x columns && f x) (λ x. ltb x columns && false) (packedLength columns) d h 0 j (omega arith) l (λ x _ m. ap (λ (t : Bool). ltb x columns && t) (k x m))
+      ∙ ap (filled (λ x. ltb x columns && f x) j) (sym e)
+
+  -- and those of the columns after the last one, so that with the bytes between them it holds the whole row
+  pub fill-rest : (j : ℕ) {r : List ℕ} → j ≤ packedLength columns → ((x : ℕ) → 8 * j ≤ x → f x ≡ false) → r ≡ filled (λ x. ltb x columns && f x) j b →
+      r ≡ packed f columns ++ drop (packedLength columns) d
+  fill-rest j l k q =
+      q ∙ ap (filled (λ x. ltb x columns && f x) j) e
+      ∙ over-more (λ x. ltb x columns && f x) (λ x. ltb x columns && false) (packedLength columns) d h j (packedLength columns) l (omega arith)
+      (λ x m _. ap (λ (t : Bool). ltb x columns && t) (k x m))
+      ∙ over-all (λ x. ltb x columns && f x) (λ x. ltb x columns && false) (packedLength columns) d h

@@ -5,10 +5,10 @@ use mathlib.Core.Bool.{Bool, true, false, cond, _&&_}
 use mathlib.Core.List.{List, [], _∷_}
 use native.Mathlib.Nat.{zero-add}
 use native.Mathlib.Omega.{arith}
-use borrow.Author.Tests.{ltb-true, ltb-false, leb-true, eqb-true, lt-ltb, le-ltb, le-leb}
+use borrow.Author.Tests.{ltb-true, ltb-false, leb-true, eqb-true, lt-ltb, le-ltb, le-leb, lt-leb}
 use lib.Dec.{leb, ltb, eqb}
 use lib.ListN.{getD}
-use Rattle.integers.proofs.Tests.{and-both, and-true, and-false}
+use Rattle.integers.proofs.Tests.{and-both, and-true, and-false, false-and}
 use Rattle.row.specs.Answer.{bitsFrom, packed}
 use Rattle.row.proofs.PackedRow.{same-test, bits-ext, packed-ext}
 
@@ -75,6 +75,9 @@ pub packed-span : (left right columns : ℕ) → packed (span left (right + 1)) 
 packed-span left right columns = packed-ext (λ x l. ap (λ (t : Bool). leb left x && t)
     (same-test (ltb x (right + 1)) (leb x right) (λ t. le-leb x right (omega (arith, ltb-true x (right + 1) t))) (λ t. lt-ltb x (right + 1) (omega (arith, leb-true x right t)))))
 
--- a span that ends where it starts is empty
-pub packed-none : (columns : ℕ) → packed (span 0 0) columns ≡ packed (λ _. false) columns
-packed-none columns = packed-ext (λ x l. and-false (leb 0 x) (ltb x 0) (le-ltb x 0 (omega arith)))
+-- no column before its first, or from its end on, is in it
+pub span-before : (left end x : ℕ) → x < left → span left end x ≡ false
+span-before left end x h = sym (false-and (leb left x) (ltb x end) (lt-leb left x h))
+
+pub span-past : (left end x : ℕ) → end ≤ x → span left end x ≡ false
+span-past left end x h = and-false (leb left x) (ltb x end) (le-ltb x end h)

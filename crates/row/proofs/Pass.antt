@@ -8,12 +8,13 @@ use native.Mathlib.Omega.{arith}
 use lib.Dec.{ltb}
 use lib.ListN.{length, getD}
 use Rattle.integers.proofs.Tests.{clash}
-use Rattle.stroke.specs.Runs.{runsOf, runsFrom}
+use Rattle.stroke.specs.Runs.{runsOf}
 use Rattle.stroke.proofs.Runs.{runs-few}
-use Rattle.row.specs.Cuts.{reachTo, blackFar}
+use Rattle.row.specs.Cuts.{Bounded, reachTo, blackFar}
 use Rattle.row.specs.declared.runs.Pass.{Pass}
 use Rattle.row.specs.Answer.{listed}
 use Rattle.row.proofs.Grown.{before, Grown, runs-grown, grown-length, grown-some}
+use Rattle.row.proofs.Bounds.{reach-first, black-first, runs-first}
 use Rattle.row.proofs.Listed.{stored, listed-grown}
 
 -- the pass before column i
@@ -22,10 +23,13 @@ pub record Passed (far : List ℕ) (i : ℕ) (p : Pass) : Type 0 where
   pub blackness : p .black ≡ before false (blackFar far) i
   pub counts : p .count ≡ length (runsOf (blackFar far) i)
 
--- before the first column
-pub passed-none : (far : List ℕ) {p : Pass} → p ≡ record { reach = 0; black = false; count = 0 } → Passed far 0 p
-unfolding runsOf runsFrom
-passed-none far e = record { reached = ap (λ p. p .reach) e; blackness = ap (λ p. p .black) e; counts = ap (λ p. p .count) e }
+-- before the first column between the bounds
+pub passed-none : {far : List ℕ} {first end : ℕ} {p : Pass} → Bounded far first end → p ≡ record { reach = 0; black = false; count = 0 } → Passed far first p
+passed-none {far} {first} b e = record {
+  reached = ap (λ p. p .reach) e ∙ sym (reach-first b first (omega arith));
+  blackness = ap (λ p. p .black) e ∙ sym (black-first b first (omega arith));
+  counts = ap (λ p. p .count) e ∙ sym (ap length (runs-first b));
+}
 
 -- there are never more runs than columns, so they can be counted
 pub passed-few : {far : List ℕ} {i : ℕ} {p : Pass} → Passed far i p → 2 * p .count ≤ i + 1

@@ -1,6 +1,7 @@
 -- How the code goes about a row: each segment's extent is cut to the raster, and a row that several segments touch is put together in an array. Inside
 -- the crate only; proofs/Cuts and proofs/Far say that it comes to the same as `blackAt`.
-use Prim.Native.Nat.{ℕ, zero, suc, _+_, _-_, max}
+use Prim.Native.Nat.{ℕ, zero, suc, _+_, _-_, _≤_, _<_, min, max}
+use mathlib.Core.Path.{_≡_}
 use mathlib.Core.Bool.{Bool, true, false, cond, _&&_}
 use mathlib.Core.List.{List, [], _∷_, map}
 use lib.Dec.{leb, ltb}
@@ -16,6 +17,7 @@ use Rattle.row.specs.declared.Cut.{Cut}
 use Rattle.row.specs.declared.Cut.the-variants as cut·
 use Rattle.row.specs.declared.Touch.{Touch}
 use Rattle.row.specs.declared.Touch.the-variants as touch·
+use Rattle.row.specs.declared.far.Bounds.{Bounds}
 
 -- a span within columns 0 .. wide - 1
 abbrev pub cutSpan : ℕ → Span → Cut
@@ -54,6 +56,17 @@ farther far (cut·.Columns l r) = set far l (max (getD far l 0) (suc r))
 unfoldable pub farOf : List Cut → List ℕ → List ℕ
 farOf [] far = far
 farOf (c ∷ cs) far = farOf cs (farther far c)
+
+-- the bounds of the cuts so far and one more; an end of 0 says that there is none so far
+abbrev pub wider : Bounds → Cut → Bounds
+wider b cut·.Nothing = b
+wider b (cut·.Columns l r) = cond (ltb 0 (b .end)) (record { first = min (b .first) l; end = max (b .end) (suc r) }) (record { first = l; end = suc r })
+
+-- every cut in the array starts at column `first` or after it and ends before column `end`
+pub record Bounded (far : List ℕ) (first end : ℕ) : Type 0 where
+  pub ordered : first ≤ end
+  pub clear-before : (x : ℕ) → x < first → getD far x 0 ≡ 0
+  pub none-past : (x : ℕ) → getD far x 0 ≤ end
 
 -- the furthest that any cut that starts at column x or before it goes
 unfoldable pub reachTo : List ℕ → ℕ → ℕ

@@ -8,7 +8,9 @@ use crate::Touch;
 use crate::cuts::cut_at;
 use crate::cuts::segment_count;
 use crate::cuts::touch;
+use crate::far::Bounds;
 use crate::far::mark;
+use crate::far::widen;
 use crate::packed::length_of;
 use crate::packed::pack_far;
 use crate::packed::pack_none;
@@ -22,14 +24,14 @@ ghost use mathlib.Core.List.{[], _∷_, _++_};
 ghost use Prim.Native.Nat.{ℕ, _≤_, _<_};
 ghost use lib.Dec.{leb};
 ghost use lib.IntN.{pos};
-ghost use lib.ListN.{length, replicate, drop};
+ghost use lib.ListN.{length, getD, replicate, drop};
 ghost use Rattle.pen.specs.Answer.{corners};
 ghost use Rattle.stroke.specs.Runs.{runsOf, rowRuns, blackAt};
 ghost use Rattle.row.specs.declared.Cut.the-variants as cut·;
 ghost use Rattle.row.specs.declared.Verdict.the-variants.{Passed};
 ghost use Rattle.row.specs.Checks.{coordinateVerdict};
 ghost use Rattle.row.specs.Answer.{pathPoints, runsResult, packed, packedLength, packedResult};
-ghost use Rattle.row.specs.Cuts.{cuts, blackCut, farther, farOf, blackFar};
+ghost use Rattle.row.specs.Cuts.{cuts, blackCut, farther, farOf, wider, Bounded, blackFar};
 
 // A refusal reports nothing written.
 pub fn refused(number: u64, place: u64) -> Answer
@@ -62,7 +64,17 @@ fn mark_cut(far: &mut [u16], cut: Cut)
     mark(far, left, right);
 }
 
-// The cuts of all segments in the array.
+fn widen_cut(b: Bounds, cut: Cut) -> Bounds
+    requires { ⌜ ((l r : ℕ) → cut ≡ cut·.Columns l r → r < 16384) ⌝ }
+    ensures { λ r. ⌜ r ≡ wider b cut ⌝ }
+{
+    let Cut::Columns(left, right) = cut else {
+        return b;
+    };
+    widen(b, left, right)
+}
+
+// The cuts of all segments in the array, which is clear before, and their bounds.
 fn put_together<'a>(
     far: &mut [u16],
     xs: &'a [i8],
@@ -71,17 +83,20 @@ fn put_together<'a>(
     path: &[i32],
     wide: usize,
     row: u64,
-)
-    requires { ⌜ coordinateVerdict (now path) ≡ Passed ⌝ ∗ ⌜ (1 ≤ wide) × (wide ≤ 16384) ⌝ ∗ ⌜ row ≤ 16383 ⌝ ∗ ⌜ wide ≤ length (now far) ⌝ }
-    ensures { λ _. ⌜ now (far .exit) ≡ farOf (cuts (corners count (now (xs .entry)) (now (ys .entry))) (pathPoints (now (path .entry))) wide row) (now (far .entry)) ⌝ }
+) -> Bounds
+    requires { ⌜ coordinateVerdict (now path) ≡ Passed ⌝ ∗ ⌜ (1 ≤ wide) × (wide ≤ 16384) ⌝ ∗ ⌜ row ≤ 16383 ⌝ ∗ ⌜ wide ≤ length (now far) ⌝ ∗ ⌜ ((x : ℕ) → getD (now far) x 0 ≡ 0) ⌝ }
+    ensures { λ r. ⌜ now (far .exit) ≡ farOf (cuts (corners count (now (xs .entry)) (now (ys .entry))) (pathPoints (now (path .entry))) wide row) (now (far .entry)) ⌝ ∗ ⌜ Bounded (now (far .exit)) (r .first) (r .end) ⌝ ∗ ⌜ r .end ≤ wide ⌝ }
 {
     let n = segment_count(path);
+    let mut b = Bounds { first: 0, end: 0 };
     let mut k = 0;
     while k < n {
         let cut = cut_at(xs, ys, count, path, k, wide, row);
         mark_cut(far, cut);
+        b = widen_cut(b, cut);
         k += 1;
     }
+    b
 }
 
 // No run needs no room.
@@ -97,15 +112,15 @@ fn write_single(runs: &mut [u16], left: usize, right: usize) -> Answer
 }
 
 // The runs are counted before any is written, so that a refusal leaves the list as it was.
-fn write_far(runs: &mut [u16], far: &[u16], columns: usize) -> Answer
-    requires { ⌜ columns ≤ length (now far) ⌝ ∗ ⌜ columns ≤ 16384 ⌝ }
-    ensures { λ r. ⌜ record { answer = r; list = now (runs .exit) } ≡ runsResult (runsOf (blackFar (now (far .entry))) columns) (now (runs .entry)) ⌝ }
+fn write_far(runs: &mut [u16], far: &[u16], first: usize, end: usize) -> Answer
+    requires { ⌜ end ≤ length (now far) ⌝ ∗ ⌜ end ≤ 16384 ⌝ ∗ ⌜ Bounded (now far) first end ⌝ }
+    ensures { λ r. ⌜ record { answer = r; list = now (runs .exit) } ≡ runsResult (runsOf (blackFar (now (far .entry))) end) (now (runs .entry)) ⌝ }
 {
-    let count = count_runs(far, columns);
+    let count = count_runs(far, first, end);
     if runs.len() / 2 < count {
         return refused(7, 0);
     }
-    write_runs(far, columns, runs);
+    write_runs(far, first, end, runs);
     done(count)
 }
 
@@ -122,8 +137,8 @@ fn several_runs<'a>(
     ensures { λ r. ⌜ record { answer = r; list = now (runs .exit) } ≡ runsResult (rowRuns (corners count (now (xs .entry)) (now (ys .entry))) (pathPoints (now (path .entry))) wide row) (now (runs .entry)) ⌝ }
 {
     let mut far: [u16; 16384] = [0; 16384];
-    put_together(&mut far, xs, ys, count, path, wide, row);
-    write_far(runs, &far, wide)
+    let b = put_together(&mut far, xs, ys, count, path, wide, row);
+    write_far(runs, &far, b.first, b.end)
 }
 
 // The runs of the row, cut to the raster.
@@ -159,8 +174,8 @@ fn pack_several<'a>(
     ensures { λ r. ⌜ now (bytes .exit) ≡ packed (λ x. blackAt (corners count (now (xs .entry)) (now (ys .entry))) (pathPoints (now (path .entry))) (pos row) (pos x)) wide ++ drop (packedLength wide) (now (bytes .entry)) ⌝ }
 {
     let mut far: [u16; 16384] = [0; 16384];
-    put_together(&mut far, xs, ys, count, path, wide, row);
-    pack_far(bytes, wide, &far);
+    let b = put_together(&mut far, xs, ys, count, path, wide, row);
+    pack_far(bytes, wide, &far, b.first, b.end);
 }
 
 // The packed row, cut to the raster.

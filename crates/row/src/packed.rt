@@ -1,6 +1,7 @@
-// A packed row: a byte for each eight columns, the leftmost pixel in the highest bit, black 1. A
-// row of one span, and an empty one, are made byte by byte; a row that several segments touch is
-// made from the array `far`, column by column.
+// A packed row: a byte for each eight columns, the leftmost pixel in the highest bit, black 1. All
+// bytes are cleared first, and then those between the first black column and the last are made: byte
+// by byte for one span, and column by column, from the array `far`, where several segments touch the
+// row.
 use crate::far::reach_at;
 ghost use mathlib.Core.Path.{_≡_};
 ghost use mathlib.Core.Bool.{false, cond, _&&_};
@@ -9,7 +10,7 @@ ghost use Prim.Native.Nat.{_+_, _-_, _*_, _≤_, _<_, min};
 ghost use lib.Dec.{leb, ltb};
 ghost use lib.ListN.{length, drop};
 ghost use Rattle.row.specs.Answer.{bitsFrom, packed, packedLength};
-ghost use Rattle.row.specs.Cuts.{reachTo, blackFar};
+ghost use Rattle.row.specs.Cuts.{Bounded, reachTo, blackFar};
 
 // The bits of a byte so far, and the furthest that any cut up to here goes.
 struct Packed {
@@ -50,14 +51,28 @@ fn span_byte(left: usize, end: usize, first: usize) -> u8
     ONES[l] - ONES[e]
 }
 
-// The row whose black columns are those from `left` on and before `end`. A span and an empty row
-// are both this, so one loop serves them.
+// The row with no black column.
+pub fn pack_none(bytes: &mut [u8], columns: usize)
+    requires { ⌜ packedLength columns ≤ length (now bytes) ⌝ ∗ ⌜ columns ≤ 16384 ⌝ }
+    ensures { λ _. ⌜ now (bytes .exit) ≡ packed (λ _. false) columns ++ drop (packedLength columns) (now (bytes .entry)) ⌝ }
+{
+    let n = length_of(columns);
+    let mut k = 0;
+    while k < n {
+        bytes[k] = 0;
+        k += 1;
+    }
+}
+
+// The row whose black columns are those from `left` on and before `end`. The bytes outside them stay
+// clear.
 fn pack_between(bytes: &mut [u8], columns: usize, left: usize, end: usize)
     requires { ⌜ packedLength columns ≤ length (now bytes) ⌝ ∗ ⌜ columns ≤ 16384 ⌝ ∗ ⌜ left ≤ end ⌝ ∗ ⌜ end ≤ columns ⌝ }
     ensures { λ _. ⌜ now (bytes .exit) ≡ packed (λ x. leb left x && ltb x end) columns ++ drop (packedLength columns) (now (bytes .entry)) ⌝ }
 {
-    let n = length_of(columns);
-    let mut k = 0;
+    pack_none(bytes, columns);
+    let n = length_of(end);
+    let mut k = left / 8;
     while k < n {
         bytes[k] = span_byte(left, end, 8 * k);
         k += 1;
@@ -70,14 +85,6 @@ pub fn pack_span(bytes: &mut [u8], columns: usize, left: usize, right: usize)
     ensures { λ _. ⌜ now (bytes .exit) ≡ packed (λ x. leb left x && leb x right) columns ++ drop (packedLength columns) (now (bytes .entry)) ⌝ }
 {
     pack_between(bytes, columns, left, right + 1);
-}
-
-// The row with no black column.
-pub fn pack_none(bytes: &mut [u8], columns: usize)
-    requires { ⌜ packedLength columns ≤ length (now bytes) ⌝ ∗ ⌜ columns ≤ 16384 ⌝ }
-    ensures { λ _. ⌜ now (bytes .exit) ≡ packed (λ _. false) columns ++ drop (packedLength columns) (now (bytes .entry)) ⌝ }
-{
-    pack_between(bytes, columns, 0, 0);
 }
 
 // One bit more, column x's. A column past the raster is a spare bit, and it leaves the reach, since
@@ -119,14 +126,15 @@ fn pack_byte(far: &[u16], columns: usize, first: usize, reach: u16) -> Packed
     p
 }
 
-// The row that the array `far` makes.
-pub fn pack_far(bytes: &mut [u8], columns: usize, far: &[u16])
-    requires { ⌜ columns ≤ length (now far) ⌝ ∗ ⌜ columns ≤ 16384 ⌝ ∗ ⌜ packedLength columns ≤ length (now bytes) ⌝ }
+// The row that the array `far` makes. The bytes outside the bounds of its cuts stay clear.
+pub fn pack_far(bytes: &mut [u8], columns: usize, far: &[u16], first: usize, end: usize)
+    requires { ⌜ columns ≤ length (now far) ⌝ ∗ ⌜ columns ≤ 16384 ⌝ ∗ ⌜ packedLength columns ≤ length (now bytes) ⌝ ∗ ⌜ end ≤ columns ⌝ ∗ ⌜ Bounded (now far) first end ⌝ }
     ensures { λ _. ⌜ now (bytes .exit) ≡ packed (blackFar (now (far .entry))) columns ++ drop (packedLength columns) (now (bytes .entry)) ⌝ }
 {
-    let n = length_of(columns);
+    pack_none(bytes, columns);
+    let n = length_of(end);
     let mut reach: u16 = 0;
-    let mut k = 0;
+    let mut k = first / 8;
     while k < n {
         let p = pack_byte(far, columns, 8 * k, reach);
         bytes[k] = p.byte;

@@ -1,10 +1,11 @@
 // The list of runs: pairs of a left and a right column, one after the other.
 //
-// One pass over the columns, from the left. A column is black exactly when the cuts that start at
-// it or before it go further than it, and a run starts at a black column that follows no black
-// one. At any time the list holds the runs of the columns passed: a black column starts a new run
-// or moves the right end of the last one. Counting is the same pass without the list, so that a
-// caller knows whether there is room before anything is written.
+// One pass over the columns between the bounds of the cuts, from the left: no other is black. A
+// column is black exactly when the cuts that start at it or before it go further than it, and a run
+// starts at a black column that follows no black one. At any time the list holds the runs of the
+// columns passed: a black column starts a new run or moves the right end of the last one. Counting
+// is the same pass without the list, so that a caller knows whether there is room before anything
+// is written.
 use crate::far::reach_at;
 ghost use mathlib.Core.Path.{_≡_};
 ghost use mathlib.Core.Bool.{true, false, not, cond, _&&_};
@@ -14,7 +15,7 @@ ghost use lib.Dec.{ltb};
 ghost use lib.ListN.{length, getD, set};
 ghost use Rattle.stroke.specs.Runs.{runsOf};
 ghost use Rattle.row.specs.Answer.{listed};
-ghost use Rattle.row.specs.Cuts.{blackFar};
+ghost use Rattle.row.specs.Cuts.{Bounded, blackFar};
 
 // What the pass knows after a column: how far the cuts so far go, whether the column is black, and
 // how many runs there are so far.
@@ -68,13 +69,13 @@ fn next(far: &[u16], i: usize, p: Pass) -> Pass
     }
 }
 
-pub fn count_runs(far: &[u16], columns: usize) -> usize
-    requires { ⌜ columns ≤ length (now far) ⌝ ∗ ⌜ columns ≤ 16384 ⌝ }
-    ensures { λ r. ⌜ r ≡ length (runsOf (blackFar (now (far .entry))) columns) ⌝ }
+pub fn count_runs(far: &[u16], first: usize, end: usize) -> usize
+    requires { ⌜ end ≤ length (now far) ⌝ ∗ ⌜ end ≤ 16384 ⌝ ∗ ⌜ Bounded (now far) first end ⌝ }
+    ensures { λ r. ⌜ r ≡ length (runsOf (blackFar (now (far .entry))) end) ⌝ }
 {
     let mut p = begin();
-    let mut i = 0;
-    while i < columns {
+    let mut i = first;
+    while i < end {
         p = next(far, i, p);
         i += 1;
     }
@@ -105,13 +106,13 @@ fn write_column(runs: &mut [u16], n: usize, i: usize, before: bool, black: bool)
     }
 }
 
-pub fn write_runs(far: &[u16], columns: usize, runs: &mut [u16])
-    requires { ⌜ columns ≤ length (now far) ⌝ ∗ ⌜ columns ≤ 16384 ⌝ ∗ ⌜ 2 * length (runsOf (blackFar (now far)) columns) ≤ length (now runs) ⌝ }
-    ensures { λ _. ⌜ now (runs .exit) ≡ listed (runsOf (blackFar (now (far .entry))) columns) (now (runs .entry)) ⌝ }
+pub fn write_runs(far: &[u16], first: usize, end: usize, runs: &mut [u16])
+    requires { ⌜ end ≤ length (now far) ⌝ ∗ ⌜ end ≤ 16384 ⌝ ∗ ⌜ 2 * length (runsOf (blackFar (now far)) end) ≤ length (now runs) ⌝ ∗ ⌜ Bounded (now far) first end ⌝ }
+    ensures { λ _. ⌜ now (runs .exit) ≡ listed (runsOf (blackFar (now (far .entry))) end) (now (runs .entry)) ⌝ }
 {
     let mut p = begin();
-    let mut i = 0;
-    while i < columns {
+    let mut i = first;
+    while i < end {
         let q = next(far, i, p);
         write_column(runs, p.count, i, p.black, q.black);
         p = q;

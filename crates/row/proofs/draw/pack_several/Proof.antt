@@ -1,4 +1,5 @@
--- The array starts clear, so its black columns are those of the cuts.
+-- The array starts clear, so its black columns are those of the cuts; none lies outside their bounds.
+use Rattle.row.proofs.Bounds.{clear-at}
 use Rattle.row.proofs.Together.{packed-array}
 use Rattle.row.specs.Answer.{pathPoints, packedLength}
 use Rattle.pen.specs.Answer.{corners}
@@ -16,7 +17,7 @@ slice-aggregate-put-together c = search needs
 
 -- src/draw.rt:130:5
 put-together-requires : tie.Need-put-together-requires
-put-together-requires c κs = search needs
+put-together-requires c κs = let p = c .before .before .pre in (p .1 .0, (p .1 .1 .0, (p .1 .1 .1, (search needs, clear-at 16384))))
 
 -- src/draw.rt:131:27
 slice-aggregate-pack-far : tie.Need-slice-aggregate-pack-far
@@ -24,7 +25,10 @@ slice-aggregate-pack-far c = search needs
 
 -- src/draw.rt:131:5
 pack-far-requires : tie.Need-pack-far-requires
-pack-far-requires c κs = search needs
+pack-far-requires c κs =
+    let p = c .before .before .before .before .before .before .pre in
+    let e = c .before .before .before .put-together .ensures in
+    (search needs, (p .1 .1 .0 .1, (p .0, (e .1 .1, e .1 .0))))
 
 -- src/draw.rt:125:1
 same-length : tie.Need-same-length
@@ -32,7 +36,7 @@ same-length c = search needs
 
 -- src/draw.rt:125:1
 returns : tie.Need-returns
-returns c = let a = c .before .before .before .before .before .before .before .before .before .args in c .before .before .pack-far .ensures ∙ ap (λ (l : List ℕ). l ++ drop (packedLength (a .wide)) (a .bytes .now)) (packed-array (corners (a .count) (a .xs .now) (a .ys .now)) (pathPoints (a .path .now)) (a .wide) (a .row) (c .before .before .before .before .before .before .before .before .before .pre .1 .1 .0 .1) (c .before .before .before .before .before .before .put-together .ensures))
+returns c = let a = c .before .before .before .before .before .before .before .before .before .args in c .before .before .pack-far .ensures ∙ ap (λ (l : List ℕ). l ++ drop (packedLength (a .wide)) (a .bytes .now)) (packed-array (corners (a .count) (a .xs .now) (a .ys .now)) (pathPoints (a .path .now)) (a .wide) (a .row) (c .before .before .before .before .before .before .before .before .before .pre .1 .1 .0 .1) (c .before .before .before .before .before .before .put-together .ensures .0))
 
 pub pack-several-spec : {M : Type 1} → statement M
 pack-several-spec =

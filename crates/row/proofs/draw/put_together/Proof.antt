@@ -1,4 +1,4 @@
--- The cuts of the segments passed are in the array, and those after them go on from there.
+-- The cuts of the segments passed are in the array, between the bounds, and those after them go on from there.
 use mathlib.Core.List.{List}
 use mathlib.Core.Path.{_≡_, refl, sym, ap, _∙_}
 use Prim.Native.Nat.{ℕ, suc, _-_, _≤_}
@@ -10,7 +10,8 @@ use Rattle.pen.specs.Answer.{corners}
 use Rattle.stroke.specs.Sweep.{segments}
 use Rattle.row.specs.declared.Cut.{Cut}
 use Rattle.row.specs.Answer.{pathPoints}
-use Rattle.row.specs.Cuts.{cuts, farther, farOf}
+use Rattle.row.specs.Cuts.{cuts, farther, farOf, Bounded}
+use Rattle.row.proofs.Bounds.{bounded-none, bounded-next}
 use Rattle.row.proofs.Raster.{cuts-long}
 use Rattle.row.proofs.Together.{far-step, far-end}
 use borrow.Author.Needs.{needs}
@@ -21,12 +22,13 @@ abbrev rowCuts : List ℤ → List ℤ → ℕ → List ℤ → ℕ → ℕ → 
 rowCuts xs ys count path wide row = cuts (corners count xs ys) (pathPoints path) wide row
 
 abbrev Inv-loop : tie.InvT-loop
-Inv-loop far₀ xs ys count path wide row n k₀ far k =
+Inv-loop far₀ xs ys count path wide row n b₀ k₀ far b k =
     (k ≤ n) × (n ≡ length (segments (pathPoints path))) × (length far ≡ length far₀) ×
-    (farOf (drop k (rowCuts xs ys count path wide row)) far ≡ farOf (rowCuts xs ys count path wide row) far₀)
+    (farOf (drop k (rowCuts xs ys count path wide row)) far ≡ farOf (rowCuts xs ys count path wide row) far₀) ×
+    Bounded far (b .first) (b .end) × (b .end ≤ wide)
 
 abbrev μ-loop : tie.MeasureT-loop
-μ-loop far₀ xs ys count path wide row n k₀ far k = n - k
+μ-loop far₀ xs ys count path wide row n b₀ k₀ far b k = n - k
 
 abbrev all : tie.Start Inv-loop μ-loop → List Cut
 all c = rowCuts (c .args .xs .now) (c .args .ys .now) (c .args .count) (c .args .path .now) (c .args .wide) (c .args .row)
@@ -38,13 +40,16 @@ segment-count-requires : tie.Need-segment-count-requires Inv-loop μ-loop
 segment-count-requires c κs = search needs
 
 loop-holds : tie.Need-loop-holds Inv-loop μ-loop
-loop-holds c = (omega arith, c .segment-count .ensures, refl, refl)
+loop-holds c = (omega arith, c .segment-count .ensures, refl, refl, bounded-none _ (c .before .before .pre .1 .1 .1 .1), omega arith)
 
 cut-at-requires : tie.Need-cut-at-requires Inv-loop μ-loop
 cut-at-requires c κs = let p = c .before .before .before .before .pre in (omega (arith, c .before .loop .inv .1), (p .0, (p .1 .0, p .1 .1 .0)))
 
 mark-cut-requires : tie.Need-mark-cut-requires Inv-loop μ-loop
 mark-cut-requires c κs = λ l r e. let p = c .before .before .before .before .before .before .pre in let b = c .before .cut-at .ensures .1 l r e in (omega (arith, b, p .1 .0, p .1 .1 .1, c .before .before .before .loop .inv .2), omega (arith, b, p .1 .0))
+
+widen-cut-requires : tie.Need-widen-cut-requires Inv-loop μ-loop
+widen-cut-requires c κs = λ l r e. omega (arith, c .before .before .before .before .cut-at .ensures .1 l r e, c .before .before .before .before .before .before .before .before .before .pre .1 .0)
 
 add-k : tie.Need-add-k Inv-loop μ-loop
 add-k c = search needs
@@ -54,15 +59,21 @@ loop-less c = search needs
 
 loop-again : tie.Need-loop-again Inv-loop μ-loop
 loop-again c =
-    let s = c .before .before .before .before .before .before .before .before .before in
-    let i = c .before .before .before .before .before .before .loop in
+    let s = c .before .before .before .before .before .before .before .before .before .before in
+    let i = c .before .before .before .before .before .before .before .loop in
+    let t = c .before .before .before .before .before .before .loop-test .taken in
+    let e = c .before .before .before .before .before .cut-at .ensures in
+    let m = c .before .before .before .mark-cut in
+    let b = bounded-next (i .far) (i .b) (s .args .wide) (i .inv .4) (i .inv .5) (c .before .before .before .before .before .cut-at .result) (e .1) (m .ensures) (c .widen-cut .ensures) in
     let k = i .k in (
-      omega (arith, c .before .before .before .before .before .loop-test .taken),
+      omega (arith, t),
       i .inv .1,
-      c .before .before .mark-cut .kept .0 ∙ i .inv .2,
+      m .kept .0 ∙ i .inv .2,
       rw add-one
-          (ap (farOf (drop (suc k) (all s))) (c .before .before .mark-cut .ensures ∙ ap (farther (i .far)) (c .before .before .before .before .cut-at .ensures .0)) ∙ sym (far-step (all s) k (i .far) (omega (arith, all-long s, i .inv .1, c .before .before .before .before .before .loop-test .taken)))
+          (ap (farOf (drop (suc k) (all s))) (m .ensures ∙ ap (farther (i .far)) (e .0)) ∙ sym (far-step (all s) k (i .far) (omega (arith, all-long s, i .inv .1, t)))
           ∙ i .inv .3),
+      b .0,
+      b .1,
     )
 
 same-length : tie.Need-same-length Inv-loop μ-loop
@@ -71,7 +82,8 @@ same-length c = c .before .loop .inv .2
 returns : tie.Need-returns Inv-loop μ-loop
 returns c =
     let s = c .before .before .before .before in
-    sym (far-end (c .before .loop .far) (drop-of-length-le (all s) {i = c .before .loop .k} (omega (arith, all-long s, c .before .loop .inv .1)))) ∙ c .before .loop .inv .3
+    let i = c .before .loop in
+    (sym (far-end (i .far) (drop-of-length-le (all s) {i = i .k} (omega (arith, all-long s, i .inv .1)))) ∙ i .inv .3, (i .inv .4, i .inv .5))
 
 pub put-together-spec : {M : Type 1} → statement M
 put-together-spec =
@@ -83,6 +95,7 @@ put-together-spec =
     loop-holds
     cut-at-requires
     mark-cut-requires
+    widen-cut-requires
     add-k
     loop-less
     loop-again

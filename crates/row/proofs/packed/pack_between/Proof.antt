@@ -1,42 +1,57 @@
--- The loop fills the buffer with the bytes of the span, one after the other.
-use Prim.Native.Nat.{ℕ, _-_, _*_, _≤_}
+-- The row is cleared, and the loop fills in the bytes of the span, one after the other; the bytes outside it are clear.
+use Prim.Native.Nat.{ℕ, _-_, _*_, _/_, _≤_, _<_}
 use mathlib.Core.Path.{_≡_, ap, _∙_}
 use mathlib.Core.Bool.{Bool, _&&_}
 use native.Mathlib.Omega.{arith}
 use lib.Dec.{ltb}
 use Rattle.row.specs.Answer.{bitsFrom, packedLength}
-use Rattle.row.proofs.PackedRow.{filled, fill-none, fill-length, fill-more}
-use Rattle.row.proofs.PackedSpan.{span, span-in-raster}
+use Rattle.row.proofs.PackedRow.{filled, fill-length, fill-more, fill-from, fill-rest}
+use Rattle.row.proofs.PackedSpan.{span, span-in-raster, span-before, span-past}
 use Rattle.row.proofs.packed.pack_between.Statement.{statement}
 use Rattle.row.proofs.packed.pack_between.Tie as tie
 
 abbrev Inv-loop : tie.InvT-loop
-Inv-loop bytes₀ columns left end n k₀ bytes k = (n ≡ packedLength columns) × (k ≤ n) × (bytes ≡ filled (λ x. ltb x columns && span left end x) k bytes₀)
+Inv-loop bytes₀ columns left end n k₀ bytes k = (n ≡ packedLength end) × (k ≤ n) × (bytes ≡ filled (λ x. ltb x columns && span left end x) k bytes₀)
 
 abbrev μ-loop : tie.MeasureT-loop
 μ-loop bytes₀ columns left end n k₀ bytes k = n - k
 
+pack-none-requires : tie.Need-pack-none-requires Inv-loop μ-loop
+pack-none-requires c κs = let p = c .before .before .pre in (p .0, p .1 .0)
+
 length-of-requires : tie.Need-length-of-requires Inv-loop μ-loop
-length-of-requires c κs = c .before .pre .1 .0
+length-of-requires c κs = let p = c .before .before .before .before .before .pre in omega (arith, p .1 .0, p .1 .1 .1)
 
 loop-holds : tie.Need-loop-holds Inv-loop μ-loop
-loop-holds c = (c .length-of .ensures, omega arith, fill-none _ (c .before .before .args .bytes .now))
+loop-holds c =
+    let a = c .before .before .before .before .before .before .args in
+    let p = c .before .before .before .before .before .before .pre in (
+      c .length-of .ensures,
+      omega (arith, c .length-of .ensures, p .1 .1 .0),
+      fill-from (span (a .left) (a .end)) (a .columns) (a .bytes .now) (p .0) (c .before .before .before .pack-none .ensures) (a .left / 8) (omega (arith, p .1 .1 .0, p .1 .1 .1))
+          (λ x h. span-before (a .left) (a .end) x (omega arith)),
+    )
 
 mul-span-byte : tie.Need-mul-span-byte Inv-loop μ-loop
-mul-span-byte c = omega (arith, c .before .loop .inv .0, c .before .before .before .before .pre .1 .0)
+mul-span-byte c = let p = c .before .before .before .before .before .before .before .before .pre in omega (arith, c .before .loop .inv .0, p .1 .0, p .1 .1 .1, c .loop-test .taken)
 
 span-byte-requires : tie.Need-span-byte-requires Inv-loop μ-loop
-span-byte-requires c κs = c .before .before .before .before .pre .1 .1 .0
+span-byte-requires c κs = c .before .before .before .before .before .before .before .before .pre .1 .1 .0
+
+-- byte k is one of the row's
+room : (c : tie.In-loop Inv-loop μ-loop) → c .before .loop .k < packedLength (c .before .before .before .before .before .before .before .before .args .columns)
+room c = omega (arith, c .before .loop .inv .0, c .loop-test .taken, c .before .before .before .before .before .before .before .before .pre .1 .1 .1)
 
 slice-write-bytes : tie.Need-slice-write-bytes Inv-loop μ-loop
 slice-write-bytes c =
     let i = c .before .before .loop in
-    let t = c .before .loop-test .taken in
-    let p = c .before .before .before .before .before .pre .0 in
-    omega (arith, fill-length _ (i .k) (c .before .before .before .before .before .args .bytes .now) (omega (arith, i .inv .0, t, p)) (i .inv .2), i .inv .0, t, p)
+    let l = room (c .before) in
+    let p = c .before .before .before .before .before .before .before .before .before .pre .0 in
+    let s = c .before .before .before .before .before .before .pack-none .kept .0 in
+    omega (arith, fill-length _ (i .k) _ (omega (arith, l, p, s)) (i .inv .2), l, p, s)
 
 add-k : tie.Need-add-k Inv-loop μ-loop
-add-k c = omega (arith, c .before .before .loop .inv .0, c .before .before .before .before .before .pre .1 .0, c .before .loop-test .taken)
+add-k c = omega (arith, room (c .before), c .before .before .before .before .before .before .before .before .before .pre .1 .0)
 
 loop-less : tie.Need-loop-less Inv-loop μ-loop
 loop-less c = omega (arith, c .before .loop-test .taken)
@@ -44,26 +59,29 @@ loop-less c = omega (arith, c .before .loop-test .taken)
 loop-again : tie.Need-loop-again Inv-loop μ-loop
 loop-again c =
     let i = c .before .before .loop in
-    let a = c .before .before .before .before .before .args in
-    let p = c .before .before .before .before .before .pre in
+    let a = c .before .before .before .before .before .before .before .before .before .args in
+    let p = c .before .before .before .before .before .before .before .before .before .pre in
     let t = c .before .loop-test .taken in (
       i .inv .0,
       omega (arith, t),
-      fill-more (λ x. ltb x (a .columns) && span (a .left) (a .end) x) (i .k) (a .bytes .now) (omega (arith, t, i .inv .0, p .0)) (i .inv .2)
+      fill-more (λ x. ltb x (a .columns) && span (a .left) (a .end) x) (i .k) _ (omega (arith, room (c .before), p .0, c .before .before .before .before .before .before .pack-none .kept .0)) (i .inv .2)
           (c .span-byte .ensures ∙ ap (λ (f : ℕ → Bool). bitsFrom f (8 * i .k) 8 0) (span-in-raster (a .left) (a .end) (a .columns) (p .1 .1 .1))),
     )
 
 same-length : tie.Need-same-length Inv-loop μ-loop
 same-length c =
     let i = c .before .loop in
-    fill-length _ (i .k) (c .before .before .before .before .args .bytes .now) (omega (arith, i .inv .0, i .inv .1, c .before .before .before .before .pre .0)) (i .inv .2)
+    let p = c .before .before .before .before .before .before .before .before .pre in
+    let s = c .before .before .before .before .before .pack-none .kept .0 in
+    fill-length _ (i .k) _ (omega (arith, i .inv .0, i .inv .1, p .0, p .1 .1 .1, s)) (i .inv .2) ∙ s
 
 returns : tie.Need-returns Inv-loop μ-loop
 returns c =
     let i = c .before .loop in
-    let a = c .before .before .before .before .args in
-    let e : i .k ≡ packedLength (a .columns) = omega (arith, i .inv .0, i .inv .1, c .loop-test .left) in
-    i .inv .2 ∙ ap (λ (n : ℕ). filled (λ x. ltb x (a .columns) && span (a .left) (a .end) x) n (a .bytes .now)) e
+    let a = c .before .before .before .before .before .before .before .before .args in
+    let p = c .before .before .before .before .before .before .before .before .pre in
+    fill-rest (span (a .left) (a .end)) (a .columns) (a .bytes .now) (p .0) (c .before .before .before .before .before .pack-none .ensures) (i .k) (omega (arith, i .inv .0, i .inv .1, p .1 .1 .1))
+    (λ x h. span-past (a .left) (a .end) x (omega (arith, i .inv .0, c .loop-test .left))) (i .inv .2)
 
 pub pack-between-spec : {M : Type 1} → statement M
 pack-between-spec =
@@ -71,6 +89,7 @@ pack-between-spec =
     (tie.spec
     Inv-loop
     μ-loop
+    pack-none-requires
     length-of-requires
     loop-holds
     mul-span-byte

@@ -11,16 +11,16 @@ use Rattle.row.proofs.runs.count_runs.Statement.{statement}
 use Rattle.row.proofs.runs.count_runs.Tie as tie
 
 abbrev Inv-loop : tie.InvT-loop
-Inv-loop far columns p₀ i₀ p i = (i ≤ columns) × Passed far i p
+Inv-loop far first end p₀ i₀ p i = (i ≤ end) × Passed far i p
 
 abbrev μ-loop : tie.MeasureT-loop
-μ-loop far columns p₀ i₀ p i = columns - i
+μ-loop far first end p₀ i₀ p i = end - i
 
 begin-requires : tie.Need-begin-requires Inv-loop μ-loop
 begin-requires c κs = tt
 
 loop-holds : tie.Need-loop-holds Inv-loop μ-loop
-loop-holds c = (omega arith, passed-none (c .before .before .args .far .now) (c .begin .ensures))
+loop-holds c = let b = c .before .before .pre .1 .1 in (b .ordered, passed-none b (c .begin .ensures))
 
 next-requires : tie.Need-next-requires Inv-loop μ-loop
 next-requires c κs = (omega arith, omega (arith, passed-few (c .before .loop .inv .1)))
@@ -38,7 +38,7 @@ returns : tie.Need-returns Inv-loop μ-loop
 returns c =
     let i = c .before .loop in
     let a = c .before .before .before .before .args in
-    let e : i .i ≡ a .columns = omega (arith, i .inv .0, c .loop-test .left) in
+    let e : i .i ≡ a .end = omega (arith, i .inv .0, c .loop-test .left) in
     i .inv .1 .counts ∙ ap (λ k. length (runsOf (blackFar (a .far .now)) k)) e
 
 pub count-runs-spec : {M : Type 1} → statement M

@@ -2,28 +2,28 @@
 use Prim.Native.Nat.{ℕ, suc, _*_, _-_, _≤_, _<_}
 use mathlib.Core.Path.{_≡_, refl, ap, _∙_}
 use mathlib.Core.Bool.{Bool}
-use mathlib.Core.List.{List}
+use mathlib.Core.List.{List, []}
 use native.Mathlib.Numerals.{add-one}
 use native.Mathlib.Omega.{arith}
 use lib.ListN.{length}
-use Rattle.stroke.specs.Runs.{runsOf, runsFrom}
+use Rattle.stroke.specs.Runs.{Run, runsOf}
 use Rattle.row.specs.Answer.{listed}
 use Rattle.row.specs.Cuts.{blackFar}
 use Rattle.row.proofs.Grown.{runs-more}
+use Rattle.row.proofs.Bounds.{runs-first}
 use Rattle.row.proofs.Pass.{Passed, passed-none, passed-few, passed-some, passed-next, passed-listed}
 use Rattle.row.proofs.runs.write_runs.Statement.{statement}
 use Rattle.row.proofs.runs.write_runs.Tie as tie
 
 abbrev Inv-loop : tie.InvT-loop
-Inv-loop far columns runs₀ p₀ i₀ runs p i = (i ≤ columns) × Passed far i p × (runs ≡ listed (runsOf (blackFar far) i) runs₀) × (length runs ≡ length runs₀)
+Inv-loop far first end runs₀ p₀ i₀ runs p i = (i ≤ end) × Passed far i p × (runs ≡ listed (runsOf (blackFar far) i) runs₀) × (length runs ≡ length runs₀)
 
 abbrev μ-loop : tie.MeasureT-loop
-μ-loop far columns runs₀ p₀ i₀ runs p i = columns - i
+μ-loop far first end runs₀ p₀ i₀ runs p i = end - i
 
--- no column, no run
-none : (f : ℕ → Bool) (l : List ℕ) → l ≡ listed (runsOf f 0) l
-unfolding runsOf runsFrom
-none f l = refl
+-- no run leaves the list
+none : {rs : List Run} (l : List ℕ) → rs ≡ [] → l ≡ listed rs l
+none l e = rw e
 
 -- the list is long enough for the runs of the first columns, as it is for all
 room : (f : ℕ → Bool) (i : ℕ) {n m : ℕ} → i < n → 2 * length (runsOf f n) ≤ m → 2 * length (runsOf f (suc i)) ≤ m
@@ -33,7 +33,7 @@ begin-requires : tie.Need-begin-requires Inv-loop μ-loop
 begin-requires c κs = tt
 
 loop-holds : tie.Need-loop-holds Inv-loop μ-loop
-loop-holds c = let a = c .before .before .before .args in (omega arith, passed-none (a .far .now) (c .begin .ensures), none (blackFar (a .far .now)) (a .runs .now), refl)
+loop-holds c = let b = c .before .before .before .pre .1 .1 .1 in (b .ordered, passed-none b (c .begin .ensures), none (c .before .before .before .args .runs .now) (runs-first b), refl)
 
 next-requires : tie.Need-next-requires Inv-loop μ-loop
 next-requires c κs = (omega arith, omega (arith, passed-few (c .before .loop .inv .1)))
@@ -43,7 +43,7 @@ write-column-requires c κs =
     let i = c .before .before .before .loop in
     let a = c .before .before .before .before .before .before .before in
     let q = passed-next (i .inv .1) (c .before .next .ensures) in
-    (omega arith, (passed-some (i .inv .1), omega (arith, c .before .next .ensures .1 .1, q .counts, room (blackFar (a .args .far .now)) (i .i) (c .before .before .loop-test .taken) (a .pre .1 .1), i .inv .3)))
+    (omega arith, (passed-some (i .inv .1), omega (arith, c .before .next .ensures .1 .1, q .counts, room (blackFar (a .args .far .now)) (i .i) (c .before .before .loop-test .taken) (a .pre .1 .1 .0), i .inv .3)))
 
 add-i : tie.Need-add-i Inv-loop μ-loop
 add-i c = omega (arith, c .before .before .before .before .before .loop-test .taken, c .before .before .before .before .before .before .before .before .before .before .pre .1 .0)
@@ -59,7 +59,7 @@ loop-again c =
     let q = passed-next (i .inv .1) (c .before .before .before .before .next .ensures) in (
       omega (arith, t),
       rw add-one q,
-      rw add-one (passed-listed (i .inv .1) q (a .args .runs .now) (room (blackFar (a .args .far .now)) (i .i) t (a .pre .1 .1)) (i .inv .2) (c .before .before .write-column .ensures)),
+      rw add-one (passed-listed (i .inv .1) q (a .args .runs .now) (room (blackFar (a .args .far .now)) (i .i) t (a .pre .1 .1 .0)) (i .inv .2) (c .before .before .write-column .ensures)),
       c .before .before .write-column .kept .0 ∙ i .inv .3,
     )
 
@@ -70,7 +70,7 @@ returns : tie.Need-returns Inv-loop μ-loop
 returns c =
     let i = c .before .loop in
     let a = c .before .before .before .before .before .args in
-    let e : i .i ≡ a .columns = omega (arith, i .inv .0, c .loop-test .left) in
+    let e : i .i ≡ a .end = omega (arith, i .inv .0, c .loop-test .left) in
     i .inv .2 ∙ ap (λ k. listed (runsOf (blackFar (a .far .now)) k) (a .runs .now)) e
 
 pub write-runs-spec : {M : Type 1} → statement M
