@@ -1,0 +1,3 @@
+-- The call, then what is proved of it.
+pub mod Records
+pub mod Theorems
