@@ -48,9 +48,8 @@ fn many_runs(pen: Pen, path: &[i32], columns: u64, rows: u64, row: u64, runs: &m
     code(a)
 }
 
-// Few rows have more than 32 runs, and to clear a list for all of them would cost more than most
-// rows do. So a short list is tried first; it refuses with 7 where it is too short.
-fn entries_runs(pen: Pen, path: &[i32], columns: u64, rows: u64, row: u64, runs: &mut [u8]) -> u64
+// A short list, which serves a row of up to 32 runs and refuses with 7 where there are more.
+fn few_runs(pen: Pen, path: &[i32], columns: u64, rows: u64, row: u64, runs: &mut [u8]) -> u64
     ensures { λ r. ⌜ record { answer = r; bytes = now (runs .exit) } ≡ rowOutcome (verdict (now (path .entry)) columns rows row) (rowRuns (penCorners pen) (pathPoints (now (path .entry))) columns row) (now (runs .entry)) ⌝ }
 {
     let mut list: [u16; 64] = [0; 64];
@@ -67,6 +66,17 @@ fn entries_runs(pen: Pen, path: &[i32], columns: u64, rows: u64, row: u64, runs:
     }
     encode(&list, 2 * count, runs);
     code(a)
+}
+
+// A path of 32 points has at most 31 segments and so no more runs. To clear a list for 8192 would
+// cost more than most rows do.
+fn entries_runs(pen: Pen, path: &[i32], columns: u64, rows: u64, row: u64, runs: &mut [u8]) -> u64
+    ensures { λ r. ⌜ record { answer = r; bytes = now (runs .exit) } ≡ rowOutcome (verdict (now (path .entry)) columns rows row) (rowRuns (penCorners pen) (pathPoints (now (path .entry))) columns row) (now (runs .entry)) ⌝ }
+{
+    if path.len() <= 64 {
+        return few_runs(pen, path, columns, rows, row, runs);
+    }
+    many_runs(pen, path, columns, rows, row, runs)
 }
 
 fn entries_packed(

@@ -11,8 +11,8 @@ use Rattle.row.specs.Checks.{verdict}
 use Rattle.host.specs.Host.{rowOutcome}
 use Rattle.host.proofs.Outcomes.{codeOf, Drawn, runs-told}
 use borrow.Author.Needs.{needs}
-use Rattle.host.proofs.answer.entries_runs.Statement.{statement}
-use Rattle.host.proofs.answer.entries_runs.Tie as tie
+use Rattle.host.proofs.answer.few_runs.Statement.{statement}
+use Rattle.host.proofs.answer.few_runs.Tie as tie
 
 -- what the row's answer says
 told : (c : tie.After-runs-for) → let a = c .before .before .before .args in Drawn 32 (record { answer = c .runs-for .result; list = c .runs-for .last .1 .1 .1 .1 .1 .0 }) (a .runs .now)
@@ -82,8 +82,8 @@ same-length-2 c = search needs
 returns-4 : tie.Need-returns-4
 returns-4 c = ap (λ (n : ℕ). record { answer = n; bytes = c .before .before .before .encode .last .1 .1 .0 }) (c .code2 .ensures) ∙ ap (λ (l : List ℕ). record { answer = codeOf (c .before .before .before .before .before .before .before .before .before .before .before .before .runs-for .result); bytes = l }) (c .before .before .before .encode .ensures) ∙ told (c .before .before .before .before .before .before .before .before .before .before .before .before) .drawn (c .before .before .before .before .before .before .before .if2 .left) (omega (arith, c .before .before .before .before .before .before .if3 .left))
 
-pub entries-runs-spec : {M : Type 1} → statement M
-entries-runs-spec =
+pub few-runs-spec : {M : Type 1} → statement M
+few-runs-spec =
     tie.close
     (tie.spec
     slice-aggregate-runs-for
