@@ -1,5 +1,5 @@
 -- How the code goes about a row: each segment's extent is cut to the raster, and a row that several segments touch is put together in an array. Inside
--- the crate only; proofs/Cuts and proofs/Far say that it comes to the same as `blackAt`.
+-- the crate only; proofs/Raster, Marked and Together say that it comes to the same as `blackAt`.
 use Prim.Native.Nat.{ℕ, zero, suc, _+_, _-_, _≤_, _<_, min, max}
 use mathlib.Core.Path.{_≡_}
 use mathlib.Core.Bool.{Bool, true, false, cond, _&&_}
