@@ -1,16 +1,20 @@
 -- The film of a drawing: several strokes, each with an aperture of a table.
 use Prim.Native.Nat.{ℕ, zero, suc, _+_, _*_, _/_}
+use mathlib.Core.Bool.{Bool, cond, _&&_}
 use mathlib.Core.List.{List, [], _∷_}
 use lib.Bits.{bitOr}
+use lib.Dec.{leb}
 use lib.ListN.{length, getD, replicate}
 use lib.Seq.{slice}
 use lib.IntN.{ℤ}
 use Rattle.pen.specs.declared.Setting.{Setting}
+use Rattle.pen.specs.Refusal.{Refusal, number, raster, room}
 use Rattle.aperture.specs.declared.Table.{Table}
 use Rattle.aperture.specs.Table.{empty, defined}
 use Rattle.row.specs.Answer.{packedLength}
 use Rattle.row.specs.Calls.{packedCall}
-use Rattle.pbm.specs.Pbm.{file}
+use Rattle.pbm.specs.Pbm.{isSize, file, started}
+use Rattle.drawing.specs.declared.Written.{Written}
 
 -- the setting at place i of a list of w, p, q, w, p, q, ..
 abbrev pub settingAt : List ℕ → ℕ → Setting
@@ -47,12 +51,33 @@ added t n path columns rows j b = laidOver b (packedCall t n path columns rows j
 
 -- so many bytes of row j with the first n strokes
 unfoldable pub rowUpTo : Drawing → ℕ → ℕ → ℕ → ℕ → ℕ → List ℕ
-rowUpTo d columns rows j room zero = replicate room 0
-rowUpTo d columns rows j room (suc k) = added (d .table) (getD (d .apertures) k 0) (pathOf (d .starts) (d .entries) k) columns rows j (rowUpTo d columns rows j room k)
+rowUpTo d columns rows j width zero = replicate width 0
+rowUpTo d columns rows j width (suc k) = added (d .table) (getD (d .apertures) k 0) (pathOf (d .starts) (d .entries) k) columns rows j (rowUpTo d columns rows j width k)
 
 -- so many bytes of row j with all strokes
 abbrev pub rowOf : Drawing → ℕ → ℕ → ℕ → ℕ → List ℕ
-rowOf d columns rows room j = rowUpTo d columns rows j room (length (d .apertures))
+rowOf d columns rows width j = rowUpTo d columns rows j width (length (d .apertures))
 
 abbrev pub film : Drawing → ℕ → ℕ → List ℕ
 film d columns rows = file columns rows (rowOf d columns rows (packedLength columns))
+
+-- what is answered, and the buffer at exit
+pub record Result : Type 0 where
+  pub written : Written
+  pub buffer : List ℕ
+
+-- "The first that applies is the answer", "and nothing lent is changed"
+abbrev pub refusal : Refusal → List ℕ → Result
+refusal r b = record { written = record { refusal = number r; count = 0 }; buffer = b }
+
+-- a file at the start of a buffer, the rest of which is unchanged; 7 where the file is longer than the buffer
+abbrev pub filePut : List ℕ → List ℕ → Result
+filePut f b = cond (leb (length f) (length b)) (record { written = record { refusal = 0; count = length f }; buffer = started f b }) (refusal room b)
+
+-- 4: "raster size outside 1 to 16,384"
+abbrev pub isRaster : ℕ → ℕ → Bool
+isRaster columns rows = isSize columns && isSize rows
+
+-- the film as a file in a buffer: 4 comes before 7
+abbrev pub filmPut : Drawing → ℕ → ℕ → List ℕ → Result
+filmPut d columns rows b = cond (isRaster columns rows) (filePut (film d columns rows) b) (refusal raster b)

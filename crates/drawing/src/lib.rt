@@ -3,12 +3,18 @@
 // each stroke; where each stroke's entries start, with the end of the last; the entries of all.
 use aperture::Table;
 ghost use mathlib.Core.Path.{_≡_};
-ghost use mathlib.Core.Bool.{true};
+ghost use mathlib.Core.Bool.{true, cond};
 ghost use Prim.Native.Nat.{_+_, _*_, _≤_, _<_, min};
 ghost use lib.ListN.{length, getD, replicate};
 ghost use Rattle.row.specs.Answer.{packedLength};
 ghost use Rattle.pbm.specs.Pbm.{isSize, header, topFirst};
-ghost use Rattle.drawing.specs.Film.{tableOf, pathOf, laidOver, added, rowOf, film};
+ghost use Rattle.drawing.specs.Film.{tableOf, pathOf, laidOver, added, rowOf, film, isRaster, filmPut};
+
+// Document 01's refusal number, and how many bytes were written.
+pub struct Written {
+    pub refusal: u64,
+    pub count: usize,
+}
 
 // The table with the settings as apertures 10, 11, ..
 pub fn table(settings: &[u64]) -> Table
@@ -184,8 +190,29 @@ fn put_rows(
     }
 }
 
+// How many bytes a packed row fills.
+fn row_length(columns: u64) -> usize
+    requires { ⌜ isSize columns ≡ true ⌝ }
+    ensures { λ r. ⌜ r ≡ packedLength columns ⌝ }
+{
+    ((columns + 7) / 8) as usize
+}
+
+// How many bytes the whole file fills, and 0 where a size is outside its limits. A header has at
+// most 15 bytes.
+fn film_length(columns: u64, rows: u64) -> usize
+    ensures { λ r. ⌜ r ≡ cond (isRaster columns rows) (length (header columns rows) + rows * packedLength columns) 0 ⌝ }
+{
+    let mut header = [0u8; 15];
+    let at = pbm::put_header(&mut header, columns, rows);
+    if at == 0 {
+        return 0;
+    }
+    at + rows as usize * row_length(columns)
+}
+
 // Fills out with the whole file. The part, as long as a packed row, is zeros, before and after.
-pub fn put_film(
+fn put_file(
     table: Table,
     apertures: &[u64],
     starts: &[usize],
@@ -198,7 +225,7 @@ pub fn put_film(
     requires { ⌜ isSize columns ≡ true ⌝ ∗ ⌜ isSize rows ≡ true ⌝ ∗ ⌜ now part ≡ replicate (packedLength columns) 0 ⌝ ∗ ⌜ length (now out) ≡ length (header columns rows) + rows * packedLength columns ⌝ }
     ensures { λ _. ⌜ now (part .exit) ≡ replicate (packedLength columns) 0 ⌝ ∗ ⌜ now (out .exit) ≡ film (record { table = table; apertures = now (apertures .entry); starts = now (starts .entry); entries = now (entries .entry) }) columns rows ⌝ }
 {
-    let width = ((columns + 7) / 8) as usize;
+    let width = row_length(columns);
     let at = pbm::put_header(out, columns, rows);
     put_rows(
         table,
@@ -211,4 +238,52 @@ pub fn put_film(
         part,
         &mut out[at..],
     );
+}
+
+// A refusal reports nothing written.
+fn refused(number: u64) -> Written
+    ensures { λ r. ⌜ r ≡ record { refusal = number; count = 0 } ⌝ }
+{
+    Written {
+        refusal: number,
+        count: 0,
+    }
+}
+
+// Puts the whole file at the start of out. Where a size is outside its limits or out is too short,
+// it is refused and out is unchanged. A packed row has at most 2,048 bytes.
+pub fn put_film(
+    table: Table,
+    apertures: &[u64],
+    starts: &[usize],
+    entries: &[i32],
+    columns: u64,
+    rows: u64,
+    out: &mut [u8],
+) -> Written
+    ensures { λ r. ⌜ record { written = r; buffer = now (out .exit) } ≡ filmPut (record { table = table; apertures = now (apertures .entry); starts = now (starts .entry); entries = now (entries .entry) }) columns rows (now (out .entry)) ⌝ }
+{
+    let length = film_length(columns, rows);
+    if length == 0 {
+        return refused(4);
+    }
+    if out.len() < length {
+        return refused(7);
+    }
+    let width = row_length(columns);
+    let mut part = [0u8; 2048];
+    put_file(
+        table,
+        apertures,
+        starts,
+        entries,
+        columns,
+        rows,
+        &mut part[..width],
+        &mut out[..length],
+    );
+    Written {
+        refusal: 0,
+        count: length,
+    }
 }

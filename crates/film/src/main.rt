@@ -9,18 +9,15 @@ fn main() {
     let starts = legend::STARTS;
     let entries = legend::ENTRIES;
     let table = drawing::table(&settings);
-    let mut part = [0u8; 80];
     let mut space = io::large_buffer();
-    let out = &mut space[..32011];
-    drawing::put_film(
+    let written = drawing::put_film(
         table,
         &apertures,
         &starts,
         &entries,
         legend::COLUMNS,
         legend::ROWS,
-        &mut part,
-        out,
+        &mut space,
     );
-    io::write_all(STDOUT_FILENO, out);
+    io::write_all(STDOUT_FILENO, &space[..written.count]);
 }

@@ -6,9 +6,9 @@ use mathlib.Core.Path.{_≡_, refl, sym, ap, _∙_}
 use mathlib.Core.Bool.{Bool, true, false, cond}
 use mathlib.Core.List.{List, [], _∷_, _++_}
 use lib.Dec.{ltb, leb}
-use lib.ListN.{length, take}
+use lib.ListN.{length, take, length-append}
 use Rattle.io.specs.Counts.{Counts}
-use borrow.Author.Tests.{lt-ltb, le-ltb, leb-true, leb-false}
+use borrow.Author.Tests.{lt-ltb, le-ltb, ltb-true, ltb-false, leb-true, leb-false}
 use Rattle.io.specs.Digits.{glyph, digits, Fewest}
 use Rattle.integers.proofs.Tests.{and-both}
 use Rattle.pbm.specs.Pbm.{isSize, digit, lastDigits, decimal}
@@ -63,3 +63,23 @@ size-short n r h f = go (leb r 5) refl
         let p : 10 ^ 5 ≤ 10 ^ (r - 1) = pow-le-pow-right {n = 10} (omega arith) l in
         let s : n ≤ 16384 = leb-true n 16384 (and-both (leb 1 n) (leb n 16384) h .1) in
         absurd (omega (arith, f .2 (omega arith)))
+
+-- so it has in the definition
+nothing : (n : ℕ) → lastDigits 0 n ≡ []
+unfolding lastDigits
+nothing n = refl
+
+few : (k n f : ℕ) → n < 10 ^ suc k → length (lastDigits f n) ≤ suc k
+few k n zero h = let l = ap length (nothing n) in omega (arith, l)
+few zero n (suc f) h = let s : n < 10 = omega arith in let l = ap length (one f n s) in omega (arith, l)
+few (suc k) n (suc f) h = go (ltb n 10) refl (few k (n / 10) f (div-lt-iff-lt-mul {k = 10} (omega arith) .1 (omega arith)))
+  where
+    go : (b : Bool) → ltb n 10 ≡ b → length (lastDigits f (n / 10)) ≤ suc k → length (lastDigits (suc f) n) ≤ suc (suc k)
+    go true e r = let l = ap length (one f n (ltb-true n 10 e)) in omega (arith, l)
+    go false e r = let l = ap length (more f n (ltb-false n 10 e)) ∙ length-append (lastDigits f (n / 10)) (digit (n % 10) ∷ []) in omega (arith, l, r)
+
+pub size-few : (n : ℕ) → isSize n ≡ true → length (decimal n) ≤ 5
+size-few n h =
+    let s : n ≤ 16384 = leb-true n 16384 (and-both (leb 1 n) (leb n 16384) h .1) in
+    let b : n < 100000 = omega arith in
+    few 4 n (suc n) b

@@ -1,9 +1,10 @@
 -- The film of the one dot, as the theorem has it.
-use mathlib.Core.Path.{refl, ap, _∙_}
+use mathlib.Core.Path.{ap, _∙_}
 use mathlib.Core.List.{List, [], _∷_}
+use Prim.Native.Nat.{ℕ}
+use denote.Ref.{now}
 use Rattle.aperture.specs.declared.Table.{Table}
-use Rattle.pbm.specs.Pbm.{lastDigits}
-use Rattle.drawing.specs.Film.{Drawing, film}
+use Rattle.drawing.specs.Film.{filePut, filmPut}
 use Rattle.drawing.specs.Cases.{dotPath}
 use Rattle.drawing.proofs.Dot.{dot-film}
 use borrow.Author.Needs.{needs}
@@ -25,21 +26,18 @@ slice-aggregate-put-film-2 c = search needs
 slice-aggregate-put-film-3 : tie.Need-slice-aggregate-put-film-3
 slice-aggregate-put-film-3 c = search needs
 
-slice-aggregate-put-film-4 : tie.Need-slice-aggregate-put-film-4
-slice-aggregate-put-film-4 c = search needs
-
 put-film-requires : tie.Need-put-film-requires
-unfolding lastDigits
-put-film-requires c κs = (refl, (refl, (refl, c .before .before .before .before .before .before .before .before .pre)))
+put-film-requires c κs = search needs
 
 same-length : tie.Need-same-length
 same-length c = search needs
 
 returns : tie.Need-returns
 returns c =
-    c .before .before .before .put-film .ensures .1
-    ∙ ap (λ (t : Table). film (record { table = t; apertures = 10 ∷ []; starts = 0 ∷ 2 ∷ []; entries = dotPath }) 5 3) (c .before .before .before .before .before .before .before .before .before .table .ensures)
-    ∙ dot-film
+    let b = now (c .before .before .before .before .before .before .before .before .before .before .args .out) in
+    c .before .before .put-film .ensures
+    ∙ ap (λ (t : Table). filmPut (record { table = t; apertures = 10 ∷ []; starts = 0 ∷ 2 ∷ []; entries = dotPath }) 5 3 b) (c .before .before .before .before .before .before .before .table .ensures)
+    ∙ ap (λ (f : List ℕ). filePut f b) dot-film
 
 pub dot-spec : {M : Type 1} → statement M
 dot-spec =
@@ -50,7 +48,6 @@ dot-spec =
     slice-aggregate-put-film
     slice-aggregate-put-film-2
     slice-aggregate-put-film-3
-    slice-aggregate-put-film-4
     put-film-requires
     same-length
     returns)

@@ -1,77 +1,101 @@
--- The header, and the rows behind it.
-use Prim.Native.Nat.{ℕ, _+_, _*_, _≤_}
+-- Both refusals come before anything is written.
+use Prim.Native.Nat.{ℕ, _≤_}
 use native.Mathlib.Omega.{arith}
-use mathlib.Core.Path.{_≡_, refl, ap, _∙_}
-use mathlib.Core.List.{List, _++_}
-use lib.Dec.{leb}
-use lib.ListN.{length, take, drop, length-take, length-drop}
-use lib.Seq.{take-at}
+use mathlib.Core.Path.{_≡_, sym, ap, _∙_}
+use mathlib.Core.Bool.{true}
+use lib.ListN.{replicate, length-replicate}
+use lib.Seq.{length-take-le}
 use denote.Ref.{now}
-use borrow.Author.Tests.{leb-true}
 use Rattle.integers.proofs.Tests.{and-both}
-use Rattle.row.specs.Answer.{packedLength}
-use Rattle.pbm.specs.Pbm.{header, started, Put}
-use Rattle.drawing.proofs.Rows.{put-whole, replaced}
+use Rattle.pbm.specs.Pbm.{isSize}
+use Rattle.drawing.specs.Film.{Drawing, isRaster}
+use Rattle.drawing.proofs.Put.{filmLength, is-none, is-some, size-most, film-least, zeros, no-raster, no-room, is-put}
 use borrow.Author.Needs.{needs}
 use Rattle.drawing.proofs.put_film.Statement.{statement}
 use Rattle.drawing.proofs.put_film.Tie as tie
 
--- the header as it was put
-put : (c : tie.After-put-header) → _≡_ {A = Put} (record { count = c .put-header .result; buffer = c .put-header .last .0 })
-    (record { count = length (header (c .before .before .before .before .before .before .args .columns) (c .before .before .before .before .before .before .args .rows)); buffer = started (header (c .before .before .before .before .before .before .args .columns) (c .before .before .before .before .before .before .args .rows)) (now (c .before .before .before .before .before .before .args .out)) })
-put c = let s = c .before .before .before .before .before .before in c .put-header .ensures ∙ put-whole (s .args .columns) (s .args .rows) (now (s .args .out)) (s .pre .0) (s .pre .1 .0) (omega (arith, s .pre .1 .1 .1))
+abbrev drawing : tie.Start → Drawing
+drawing s = record { table = s .args .table; apertures = now (s .args .apertures); starts = now (s .args .starts); entries = now (s .args .entries) }
 
-count : (c : tie.After-put-header) → c .put-header .result ≡ length (header (c .before .before .before .before .before .before .args .columns) (c .before .before .before .before .before .before .args .rows))
-count c = ap (λ (r : Put). r .count) (put c)
+raster : (c : tie.Else1) → (isRaster (c .before .before .before .before .before .args .columns) (c .before .before .before .before .before .args .rows) ≡ true) × (c .before .film-length .result ≡ filmLength (c .before .before .before .before .before .args .columns) (c .before .before .before .before .before .args .rows))
+raster c = is-some _ _ _ (c .before .film-length .ensures) (c .if1 .left)
 
-front : (c : tie.After-put-header) → take (c .put-header .result) (c .put-header .last .0) ≡ header (c .before .before .before .before .before .before .args .columns) (c .before .before .before .before .before .before .args .rows)
-front c = ap (λ (r : Put). take (r .count) (r .buffer)) (put c) ∙ take-at _ _ _ refl
+sizes : (c : tie.Else1) → (isSize (c .before .before .before .before .before .args .columns) ≡ true) × (isSize (c .before .before .before .before .before .args .rows) ≡ true)
+sizes c = and-both _ _ (raster c .0)
 
--- the rows' bytes are those behind it
-behind : (c : tie.After-put-header) → length (c .put-header .last .0) ≡ c .put-header .result + c .before .before .before .before .before .before .args .rows * packedLength (c .before .before .before .before .before .before .args .columns)
-behind c = let s = c .before .before .before .before .before .before in omega (arith, count c, c .put-header .kept .0, s .pre .1 .1 .1)
+narrow : (c : tie.After-row-length) → c .row-length .result ≤ 2048
+narrow c = omega (arith, c .row-length .ensures, size-most (c .before .before .before .before .before .before .before .args .columns) (sizes (c .before .before) .0))
 
-add-width : tie.Need-add-width
-add-width c = let s = c .before .before .before .before in omega (arith, leb-true (s .args .columns) 16384 (and-both (leb 1 (s .args .columns)) (leb (s .args .columns) 16384) (s .pre .0) .1))
+film-length-requires : tie.Need-film-length-requires
+film-length-requires c κs = search needs
 
-put-header-requires : tie.Need-put-header-requires
-put-header-requires c κs = search needs
+refused-requires : tie.Need-refused-requires
+refused-requires c κs = search needs
 
-sub-put-rows : tie.Need-sub-put-rows
-sub-put-rows c = omega (arith, behind (c .before .before .before))
+returns : tie.Need-returns
+returns c =
+    let s = c .before .before .before .before .before .before in
+    let a = s .args in
+    no-raster (drawing s) (a .columns) (a .rows) (now (a .out)) (is-none _ _ _ (film-least (a .columns) (a .rows)) (c .before .before .film-length .ensures) (c .before .if1 .taken)) (c .refused .ensures)
 
-part-put-rows-start : tie.Need-part-put-rows-start
-part-put-rows-start c = let h : c .before .before .before .put-header .result ≤ length (c .before .before .before .put-header .last .0) = omega (arith, behind (c .before .before .before)) in search needs
+refused-requires-2 : tie.Need-refused-requires-2
+refused-requires-2 c κs = search needs
 
-part-put-rows-end : tie.Need-part-put-rows-end
-part-put-rows-end c = search needs
+returns-2 : tie.Need-returns-2
+returns-2 c =
+    let s = c .before .before .before .before .before .before .before in
+    let a = s .args in
+    let r = raster (c .before .before) in
+    no-room (drawing s) (a .columns) (a .rows) (now (a .out)) (r .0) (omega (arith, r .1, c .before .if2 .taken)) (c .refused2 .ensures)
 
-put-rows-requires : tie.Need-put-rows-requires
-put-rows-requires c κs = (c .before .before .before .before .before .before .before .before .before .before .pre .1 .1 .0, simp (length-take, length-drop) (omega (arith, behind (c .before .before .before .before))))
+row-length-requires : tie.Need-row-length-requires
+row-length-requires c κs = sizes (c .before) .0
+
+array-borrow-prefix-part : tie.Need-array-borrow-prefix-part
+array-borrow-prefix-part c = let h = narrow c in search needs
+
+slice-aggregate-put-file : tie.Need-slice-aggregate-put-file
+slice-aggregate-put-file c = sym (length-take-le (c .before .row-length .result) (replicate 2048 0) (omega (arith, narrow (c .before), length-replicate {A = ℕ} 2048 0)))
+
+slice-relend-prefix-put-file : tie.Need-slice-relend-prefix-put-file
+slice-relend-prefix-put-file c = search needs
+
+slice-aggregate-put-file-2 : tie.Need-slice-aggregate-put-file-2
+slice-aggregate-put-file-2 c = sym (length-take-le (c .before .before .before .before .before .film-length .result) (now (c .before .before .before .before .before .before .before .before .before .args .out)) (c .before .before .before .if2 .left))
+
+put-file-requires : tie.Need-put-file-requires
+put-file-requires c κs =
+    let w = c .before .before in
+    let e = w .before .before in
+    let z = sizes e in
+    (z .0, (z .1, (zeros (w .row-length .result) 2048 (narrow w) ∙ ap (λ (n : ℕ). replicate n 0) (w .row-length .ensures), length-take-le (e .before .film-length .result) (now (e .before .before .before .before .before .args .out)) (w .before .if2 .left) ∙ raster e .1)))
 
 same-length : tie.Need-same-length
 same-length c = search needs
 
-same-length-2 : tie.Need-same-length-2
-same-length-2 c = search needs
-
-returns : tie.Need-returns
-returns c =
-    let r = c .before .before .before .before .put-rows in
-    let h = c .before .before .before .before .before .before .before .before .before in
-    let s = c .before .before .before .before .before .before .before .before .before .before .before .before .before .before .before in
-    (r .ensures .0, replaced _ _ (h .put-header .last .0) (h .put-header .result) (front h) ∙ ap (λ (l : List ℕ). header (s .args .columns) (s .args .rows) ++ l) (r .ensures .1))
+returns-3 : tie.Need-returns-3
+returns-3 c =
+    let p = c .before .before .before in
+    let k = p .before .before .before .before in
+    let e = k .before in
+    let s = e .before .before .before .before .before in
+    let a = s .args in
+    is-put (drawing s) (a .columns) (a .rows) (now (a .out)) (raster e .0) (raster e .1) (k .if2 .left) (p .put-file .ensures .1)
 
 pub put-film-spec : {M : Type 1} → statement M
 put-film-spec =
     tie.close
     (tie.spec
-    add-width
-    put-header-requires
-    sub-put-rows
-    part-put-rows-start
-    part-put-rows-end
-    put-rows-requires
+    film-length-requires
+    refused-requires
+    returns
+    refused-requires-2
+    returns-2
+    row-length-requires
+    array-borrow-prefix-part
+    slice-aggregate-put-file
+    slice-relend-prefix-put-file
+    slice-aggregate-put-file-2
+    put-file-requires
     same-length
-    same-length-2
-    returns)
+    returns-3)

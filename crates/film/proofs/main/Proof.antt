@@ -1,8 +1,11 @@
--- The buffer is large enough, and its part is exactly as long as the film.
+-- No more is counted than the buffer holds.
+use Prim.Native.Nat.{ℕ, _≤_}
 use native.Mathlib.Omega.{arith}
-use mathlib.Core.Path.{refl, sym}
+use mathlib.Core.Path.{sym, ap, subst}
+use lib.ListN.{length}
 use lib.Seq.{length-take-le}
-use Rattle.pbm.specs.Pbm.{lastDigits}
+use Rattle.drawing.specs.Film.{Result}
+use Rattle.drawing.proofs.Put.{count-most}
 use borrow.Author.Needs.{needs}
 use Rattle.film.proofs.main.Statement.{statement}
 use Rattle.film.proofs.main.Tie as tie
@@ -15,12 +18,6 @@ table-requires c κs = search needs
 
 large-buffer-requires : tie.Need-large-buffer-requires
 large-buffer-requires c κs = search needs
-
-array-borrow-prefix-space : tie.Need-array-borrow-prefix-space
-array-borrow-prefix-space c = search needs
-
-slice-aggregate-out : tie.Need-slice-aggregate-out
-slice-aggregate-out c = sym (length-take-le 32011 (c .before .large-buffer .result) (omega (arith, c .before .large-buffer .ensures)))
 
 slice-aggregate-put-film : tie.Need-slice-aggregate-put-film
 slice-aggregate-put-film c = search needs
@@ -35,8 +32,16 @@ slice-aggregate-put-film-4 : tie.Need-slice-aggregate-put-film-4
 slice-aggregate-put-film-4 c = search needs
 
 put-film-requires : tie.Need-put-film-requires
-unfolding lastDigits
-put-film-requires c κs = let b = c .before .before .before .before .before .before .large-buffer in (refl, (refl, (refl, length-take-le 32011 (b .result) (omega (arith, b .ensures)))))
+put-film-requires c κs = search needs
+
+array-share-prefix-space : tie.Need-array-share-prefix-space
+array-share-prefix-space c =
+    let b = c .before .before .before .before .before .before .large-buffer in
+    let h : c .before .put-film .result .count ≤ length (b .result) = subst (λ (n : ℕ). n ≤ length (b .result)) (sym (ap (λ (r : Result). r .written .count) (c .before .put-film .ensures))) (search count-most) in
+    omega (arith, h, b .ensures)
+
+slice-aggregate-write-all : tie.Need-slice-aggregate-write-all
+slice-aggregate-write-all c = let h = array-share-prefix-space (c .before) in sym (length-take-le _ _ h)
 
 write-all-requires : tie.Need-write-all-requires
 write-all-requires c κs = search needs
@@ -51,12 +56,12 @@ main-spec =
     slice-aggregate-table
     table-requires
     large-buffer-requires
-    array-borrow-prefix-space
-    slice-aggregate-out
     slice-aggregate-put-film
     slice-aggregate-put-film-2
     slice-aggregate-put-film-3
     slice-aggregate-put-film-4
     put-film-requires
+    array-share-prefix-space
+    slice-aggregate-write-all
     write-all-requires
     returns)

@@ -1,0 +1,15 @@
+-- A size is small.
+use native.Mathlib.Omega.{arith}
+use Rattle.drawing.proofs.Put.{size-most}
+use borrow.Author.Needs.{needs}
+use Rattle.drawing.proofs.row_length.Statement.{statement}
+use Rattle.drawing.proofs.row_length.Tie as tie
+
+add-result : tie.Need-add-result
+add-result c = omega (arith, size-most (c .args .columns) (c .pre))
+
+returns : tie.Need-returns
+returns c = search needs
+
+pub row-length-spec : {M : Type 1} → statement M
+row-length-spec = tie.close (tie.spec add-result returns)
