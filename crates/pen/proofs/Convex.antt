@@ -5,10 +5,10 @@ use mathlib.Core.List.{List, _∷_, List·Memᴰ·head, List·Memᴰ·tail}
 use native.Mathlib.Nat.{mul-add, mul-comm, mul-assoc, mul-left-comm, mul-le-mul-left, le-of-lt, one-le-mul}
 use native.Mathlib.Omega.{arith}
 use Rattle.integers.specs.Count.{_∈_}
-use Rattle.pen.specs.Cutting.{Corner}
-use Rattle.pen.proofs.Chain.{Link, Chain, link}
-use Rattle.pen.proofs.Ranges.{onward}
-use Rattle.pen.proofs.Slope.{slope-trans, slope-trans-le}
+use Rattle.quarter.specs.Cutting.{Corner}
+use Rattle.quarter.proofs.Chain.{Link, Chain, link}
+use Rattle.quarter.proofs.Ranges.{onward}
+use Rattle.quarter.proofs.Slope.{slope-trans, slope-trans-le}
 
 -- P and Q stand one after the other
 pub data Adjacent (P Q : Corner) : List Corner → Type 0 where

@@ -1,25 +1,9 @@
 -- Theorems has the claims of specs/Theorems.antt. The others in the order in which they are used:
---   Limits, Slope, Naturals, NearRoot       arithmetic: the limits of a setting, directions, naturals as whole numbers, the near root
---   Chain, Invariant, Pieces, Cuts, Rounds  what holds at every corner that is not yet put out, and that each round keeps it
---   Progress, Sizes                         every moment: counts, sizes, the end
---   Quarters, Ranges, Convex                the quarter is a chain; where its corners lie; it is convex
---   Once, Images, Fits, Around, Whole       the whole polygon of a convex quarter satisfies the laws of a pen
---   PenLaw                                  so does the pen of a setting
---   Nearest, Rules                          the quarter is what document 01's steps put out
---   Most, Halving, Stack, Laid, Mirrored    for the code: bounds of machine numbers, the search's loop, the stack, arrays of corners
-pub mod Limits
-pub mod Slope
-pub mod Naturals
-pub mod NearRoot
-pub mod Chain
-pub mod Invariant
-pub mod Pieces
-pub mod Cuts
-pub mod Rounds
-pub mod Progress
-pub mod Sizes
-pub mod Quarters
-pub mod Ranges
+--   Convex                             a quarter is convex: its corners are a chain of ever steeper edges
+--   Once, Images, Fits, Around, Whole  the whole polygon of a convex quarter satisfies the laws of a pen
+--   PenLaw                             so does the pen of a setting
+--   Laid, Walk                         for the code: arrays of points, and what stands at each place of the walk around the polygon
+--   Answers                            what building answers, by the test of the setting's limits
 pub mod Convex
 pub mod Once
 pub mod Images
@@ -27,11 +11,7 @@ pub mod Fits
 pub mod Around
 pub mod Whole
 pub mod PenLaw
-pub mod Most
-pub mod Nearest
-pub mod Rules
 pub mod Theorems
-pub mod Halving
-pub mod Stack
 pub mod Laid
 pub mod Walk
+pub mod Answers

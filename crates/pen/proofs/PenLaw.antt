@@ -9,15 +9,15 @@ use lib.IntN.{ℤ, pos, negℤ, _+ℤ_, _-ℤ_, _*ℤ_}
 use Rattle.integers.specs.Orders.{_≼_, _≺_}
 use Rattle.integers.specs.Count.{_∈_}
 use Rattle.integers.proofs.Ring.{ring, reify, _⊢_}
-use Rattle.pen.specs.declared.Setting.{Setting}
-use Rattle.pen.specs.Setting.{Taken, Dx, Dy}
-use Rattle.pen.specs.Cutting.{Corner, quarter}
+use Rattle.setting.specs.declared.Setting.{Setting}
+use Rattle.setting.specs.Setting.{Taken, Dx, Dy}
+use Rattle.quarter.specs.Cutting.{Corner, quarter}
 use Rattle.pen.specs.Polygon.{Pt, upward, upAndBack, around, closed, whole, pen}
 use Rattle.pen.specs.Laws.{dot, edge, PenLaws}
-use Rattle.pen.proofs.Limits.{box-wide, box-high}
-use Rattle.pen.proofs.Naturals.{le-pos, lt-pos, diff}
-use Rattle.pen.proofs.Chain.{Chain, stop, link}
-use Rattle.pen.proofs.Ranges.{x-range, y-range, few-corners, some, split-chain, lowest}
+use Rattle.setting.proofs.Limits.{box-wide, box-high}
+use Rattle.quarter.proofs.Naturals.{le-pos, lt-pos, diff}
+use Rattle.quarter.proofs.Chain.{Chain, stop, link}
+use Rattle.quarter.proofs.Ranges.{x-range, y-range, few-corners, some, split-chain, lowest}
 use Rattle.pen.proofs.Convex.{Adjacent, here, there, Inside, inside-all, adjacent-on}
 use Rattle.pen.proofs.Once.{once-few}
 use Rattle.pen.proofs.Images.{map-mem, around-length}

@@ -8,7 +8,7 @@ use lib.Seq.{getD-take, length-take-le}
 use lib.IntN.{ℤ, pos, negℤ}
 use Rattle.pen.specs.Polygon.{Pt, pt, flipped, turned, upAndBack, around}
 use Rattle.pen.specs.Answer.{points, corners}
-use Rattle.pen.specs.declared.Quarter.{Quarter}
+use Rattle.quarter.specs.declared.Quarter.{Quarter}
 use Rattle.pen.specs.Mirrored.{origin, cornersOf, Mirrorable}
 use Rattle.pen.proofs.Images.{neg-neg, around-length}
 

@@ -6,7 +6,7 @@ use mathlib.Core.List.{List, [], _∷_}
 use lib.ListN.{length, take, set, getD}
 use lib.IntN.{ℤ, pos}
 use Rattle.integers.specs.Bound.{Abs}
-use Rattle.pen.specs.declared.Quarter.{Quarter}
+use Rattle.quarter.specs.declared.Quarter.{Quarter}
 use Rattle.pen.specs.declared.Pen.{Pen}
 use Rattle.pen.specs.declared.polygon.Point.{Point}
 use Rattle.pen.specs.Polygon.{Pt, pt, same}

@@ -2,10 +2,11 @@
 -- From here on a point has whole coordinates of either sign, y upwards.
 use mathlib.Core.Bool.{Bool, true, false, cond, _&&_}
 use mathlib.Core.List.{List, [], _∷_, map}
-use lib.IntN.{ℤ, pos, negℤ}
+use lib.IntN.{ℤ, negℤ}
 use Rattle.integers.specs.Compare.{eqZ}
-use Rattle.pen.specs.declared.Setting.{Setting}
-use Rattle.pen.specs.Cutting.{Corner, quarter}
+use Rattle.setting.specs.declared.Setting.{Setting}
+use Rattle.quarter.specs.Cutting.{Corner, quarter}
+use Rattle.quarter.specs.Answer.{across, upwards}
 
 pub record Pt : Type 0 where
   pub x : ℤ
@@ -19,7 +20,7 @@ same P Q = eqZ (P .x) (Q .x) && eqZ (P .y) (Q .y)
 
 -- a corner of the quarter with its y upwards, as in document 01
 abbrev pub upward : Corner → Pt
-upward c = pt (pos (c .x)) (negℤ (pos (c .y)))
+upward c = pt (across c) (upwards c)
 
 -- the mirror image in the x axis, and the point turned by half a turn
 abbrev pub flipped : Pt → Pt

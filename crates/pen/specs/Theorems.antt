@@ -1,52 +1,11 @@
 -- What is proved of the pen, for every setting within the limits. Each claim is a type; proofs/Theorems.antt proves it under the same name.
-use Prim.Native.Nat.{ℕ, _≤_, _<_}
-use mathlib.Core.Path.{_≡_}
-use mathlib.Core.List.{List, [], _∷_}
+use Prim.Native.Nat.{_≤_}
 use lib.ListN.{length}
 use lib.IntN.{pos}
-use Rattle.integers.specs.Count.{_∈_}
-use Rattle.pen.specs.declared.Setting.{Setting}
-use Rattle.pen.specs.declared.Edge.{Edge}
-use Rattle.pen.specs.Setting.{Taken, Dx, Dy}
-use Rattle.pen.specs.NearRoot.{NearRoot, nearRoot}
-use Rattle.pen.specs.Cutting.{Corner, State, first, step, put, on, quarter}
-use Rattle.pen.specs.Steps.{Puts}
+use Rattle.setting.specs.declared.Setting.{Setting}
+use Rattle.setting.specs.Setting.{Taken, Dx, Dy}
 use Rattle.pen.specs.Polygon.{pen}
 use Rattle.pen.specs.Laws.{PenLaws}
-use Rattle.pen.specs.Moment.{Moment, cornersAt, total, Ready}
-
--- the near root's inequality holds of the number that is computed, for every direction that building a pen can ask for, and determines it
-abbrev pub NearRootHolds : Type 0
-NearRootHolds = (σ : Setting) → Taken σ → (u v : ℕ) → 1 ≤ u → u ≤ 64 → v ≤ 64 → NearRoot σ u v (nearRoot σ u v)
-
-abbrev pub NearRootUnique : Type 0
-NearRootUnique = (σ : Setting) → Taken σ → (u v m n : ℕ) → NearRoot σ u v m → NearRoot σ u v n → m ≡ n
-
--- the steps end: each round takes something off a sum that starts at 2Dx + 2Dy
-abbrev pub StepsFall : Type 0
-StepsFall = (σ : Setting) → Taken σ → (out : List Corner) (t : State) → Moment σ out t → ((r : State) → step σ t ≡ put r → total r < total t) × ((r : State) → step σ t ≡ on r → total r < total t)
-
--- the quarter is what document 01's steps put out
-abbrev pub QuarterPuts : Type 0
-QuarterPuts = (σ : Setting) → Taken σ → Puts σ (first σ .x) (first σ .y) (first σ .before) (first σ .after) (quarter σ)
-
--- at every moment there are at most 33 corners, and where no edge is left those put out are the quarter
-abbrev pub AtMost33 : Type 0
-AtMost33 = (σ : Setting) → Taken σ → (out : List Corner) (t : State) → Moment σ out t → cornersAt out t ≤ 33
-
-abbrev pub EndsWithQuarter : Type 0
-EndsWithQuarter = (σ : Setting) → Taken σ → (out : List Corner) (t : State) → Moment σ out t → t .after ≡ [] → out ≡ quarter σ
-
--- no difference in the steps falls below 0, and all numbers are small
-abbrev pub NothingBelowZero : Type 0
-NothingBelowZero = (σ : Setting) → Taken σ → (out : List Corner) (t : State) → Moment σ out t → (R : Edge) (rest : List Edge) → t .after ≡ R ∷ rest → Ready σ t R
-
--- the quarter's corners are at most 33, and lie in the box
-abbrev pub QuarterFew : Type 0
-QuarterFew = (σ : Setting) → Taken σ → length (quarter σ) ≤ 33
-
-abbrev pub QuarterBox : Type 0
-QuarterBox = (σ : Setting) → Taken σ → (c : Corner) → c ∈ quarter σ → (c .x ≤ 32) × (c .y ≤ 32)
 
 -- the whole has at most 132 corners, and satisfies the laws of a pen: convex, equal to its mirror images, Dx wide and Dy high
 abbrev pub PenFew : Type 0

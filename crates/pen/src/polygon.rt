@@ -1,6 +1,6 @@
 // The whole polygon: the quarter and its mirror images in both axes, equal corners once.
 use crate::Pen;
-use crate::Quarter;
+use quarter::Quarter;
 ghost use mathlib.Core.Path.{_≡_};
 ghost use mathlib.Core.List.{[]};
 ghost use Prim.Native.Nat.{_*_, _<_};

@@ -1,97 +1,77 @@
--- The pen of the definition is the whole polygon of the quarter that the loop built; a setting that the check refuses has none.
-use Rattle.pen.proofs.Laid.{corners-back, mirrorable}
-use Rattle.pen.proofs.Limits.{taken-iff}
-use Rattle.pen.specs.Mirrored.{cornersOf, Mirrorable}
-use Rattle.pen.specs.Answer.{quarterOf, penOf, checked, built}
-use Rattle.pen.specs.Polygon.{Pt, upward, whole, pen}
-use Rattle.pen.specs.Cutting.{quarter}
-use Rattle.pen.specs.Setting.{Taken, taken}
-use Rattle.pen.specs.declared.Built.{Built}
-use Rattle.pen.specs.declared.Pen.{Pen}
-use Rattle.pen.specs.declared.Quarter.{Quarter}
-use Rattle.pen.specs.declared.Checked.the-variants as variant
-use Rattle.pen.specs.declared.Setting.{Setting}
-use Prim.Native.Nat.{ℕ}
-use native.Mathlib.Omega.{arith}
-use Rattle.pen.specs.declared.Checked.{Checked}
-use mathlib.Core.List.{List, [], map}
-use mathlib.Core.Bool.{Bool, true, false}
-use mathlib.Core.Path.{_≡_, refl, sym, ap, subst, _∙_}
+-- The pen of the definition is the whole polygon of the quarter that the steps put out; a setting that the check refuses has none.
+use mathlib.Core.Path.{_≡_, sym, ap, subst, _∙_}
+use mathlib.Core.List.{List, []}
 use borrow.Author.Needs.{needs}
+use Rattle.setting.specs.declared.Setting.{Setting}
+use Rattle.setting.specs.declared.Checked.the-variants as checked·
+use Rattle.setting.specs.Answer.{checked}
+use Rattle.setting.proofs.Limits.{taken-iff}
+use Rattle.setting.proofs.Answers.{checked-taken, checked-refused}
+use Rattle.quarter.specs.declared.Quarter.{Quarter}
+use Rattle.quarter.specs.Cutting.{quarter}
+use Rattle.quarter.specs.Answer.{quarterOf, cornered}
+use Rattle.quarter.proofs.Cornered.{cornered-taken}
+use Rattle.pen.specs.declared.Pen.{Pen}
+use Rattle.pen.specs.Polygon.{Pt, whole, pen}
+use Rattle.pen.specs.Answer.{penOf, built}
+use Rattle.pen.specs.Mirrored.{cornersOf, Mirrorable}
+use Rattle.pen.proofs.Laid.{quarter-back, mirrorable}
+use Rattle.pen.proofs.Answers.{built-taken, built-refused}
 use Rattle.pen.proofs.build.Statement.{statement}
 use Rattle.pen.proofs.build.Tie as tie
 use Rattle.pen.proofs.build.Reads as reads
 use Rattle.pen.proofs.build.Lts as lts
-use Rattle.pen.proofs.corners.quarter.Reads as quarter-reads
 use Rattle.pen.proofs.polygon.mirrored.Reads as mirrored-reads
 use Rattle.pen.proofs.polygon.none.Reads as none-reads
-use Rattle.pen.proofs.settings.check.Reads as check-reads
+use Rattle.quarter.proofs.build.Reads as build-reads
+use Rattle.setting.proofs.check.Reads as check-reads
 
--- what the check's answer says of the setting
-is-taken : (σ s : Setting) → checked σ ≡ variant.Taken s → (taken σ ≡ true) × (σ ≡ s)
-unfolding checked
-is-taken σ s e = go (taken σ) refl e
-  where
-    go : (t : Bool) → taken σ ≡ t → (elim t as (λ _. Checked) [ true ↦ variant.Taken σ | false ↦ variant.Refused ]) ≡ variant.Taken s → (taken σ ≡ true) × (σ ≡ s)
-    go true h e = (h, cc)
-    go false h e = absurd (let z : _≡_ {A = ℕ} 0 1 = cc in omega arith)
+none-of : (σ : Setting) → checked σ ≡ checked·.Refused → {p : Pen} → p ≡ penOf [] → record { refusal = 1; pen = p } ≡ built σ
+none-of σ e h = ap (λ (q : Pen). record { refusal = 1; pen = q }) h ∙ sym (built-refused σ (checked-refused σ e))
 
-is-refused : (σ : Setting) → checked σ ≡ variant.Refused → taken σ ≡ false
-unfolding checked
-is-refused σ e = go (taken σ) refl e
-  where
-    go : (t : Bool) → taken σ ≡ t → (elim t as (λ _. Checked) [ true ↦ variant.Taken σ | false ↦ variant.Refused ]) ≡ variant.Refused → taken σ ≡ false
-    go true h e = absurd (let z : _≡_ {A = ℕ} 0 1 = cc in omega arith)
-    go false h e = h
+-- the quarter of a setting that the check took
+quarter-of : (σ s : Setting) → checked σ ≡ checked·.Taken s → cornered s ≡ quarterOf (quarter σ)
+quarter-of σ s e = let k = checked-taken σ s e in ap cornered (sym (k .1)) ∙ cornered-taken σ (k .0)
 
-none-of : (σ : Setting) → checked σ ≡ variant.Refused → {p : Pen} → p ≡ penOf [] → record { refusal = 1; pen = p } ≡ built σ
-unfolding built
-none-of σ e h = rw (is-refused σ e, built) (ap (λ (q : Pen). record { refusal = 1; pen = q }) h)
+can-mirror : (σ s : Setting) → checked σ ≡ checked·.Taken s → {q : Quarter} → q ≡ cornered s → Mirrorable q
+can-mirror σ s e h = subst Mirrorable (sym (h ∙ quarter-of σ s e)) (mirrorable σ (taken-iff σ .0 (checked-taken σ s e .0)))
 
-some-of : (σ s : Setting) → checked σ ≡ variant.Taken s → {p : Pen} → p ≡ penOf (whole (cornersOf (quarterOf (map upward (quarter s))))) → record { refusal = 0; pen = p } ≡ built σ
-unfolding built pen
-some-of σ s e h =
-    let k = is-taken σ s e in
-    let same = ap (λ (r : Setting). penOf (whole (map upward (quarter r)))) (sym (k .1)) in
-    rw (k .0, built) (ap (λ (q : Pen). record { refusal = 0; pen = q }) (h ∙ ap (λ (l : List Pt). penOf (whole l)) (corners-back 33 (map upward (quarter s))) ∙ same))
+some-of : (σ s : Setting) → checked σ ≡ checked·.Taken s → {q : Quarter} → q ≡ cornered s → {p : Pen} → p ≡ penOf (whole (cornersOf q)) → record { refusal = 0; pen = p } ≡ built σ
+unfolding pen
+some-of σ s e k h =
+    let corners = ap cornersOf (k ∙ quarter-of σ s e) ∙ quarter-back (quarter σ) in
+    ap (λ (p : Pen). record { refusal = 0; pen = p }) (h ∙ ap (λ (l : List Pt). penOf (whole l)) corners) ∙ sym (built-taken σ (checked-taken σ s e .0))
 
-asked : (c : tie.After-known-told) → Taken (c .before .s .given .0 .0)
-asked c =
-    let a = c .before .before .before .before .args in
-    let k = is-taken (record { w = a .w; p = a .p; q = a .q }) (c .before .s .given .0 .0) (sym (c .before .before .before .check .ensures) ∙ c .before .s .given .1) in
-    subst Taken (k .1) (taken-iff _ .0 (k .0))
+abbrev given : tie.Start → Setting
+given c = record { w = c .args .w; p = c .args .p; q = c .args .q }
 
--- src/lib.rt:75:29
 check-requires : tie.Need-check-requires
 check-requires c κs = search needs
 
--- src/lib.rt:75:24
 enum-known-s : tie.Need-enum-known-s
 enum-known-s c = search needs
 
--- src/lib.rt:78:18
 enum-told : tie.Need-enum-told
 enum-told c = search needs
 
--- src/lib.rt:78:18
 none-requires : tie.Need-none-requires
 none-requires c κs = search needs
 
--- src/lib.rt:76:9
 returns : tie.Need-returns
-returns c = let a = c .before .before .before .before .args in none-of (record { w = a .w; p = a .p; q = a .q }) (sym (c .before .before .before .check .ensures) ∙ c .before .enum-told .given .1) (c .none .ensures)
+returns c = none-of (given (c .before .before .before .before)) (sym (c .before .before .before .check .ensures) ∙ c .before .enum-told .given .1) (c .none .ensures)
 
--- src/lib.rt:81:9
-quarter-requires : tie.Need-quarter-requires
-quarter-requires c κs = asked c
+build-requires : tie.Need-build-requires
+build-requires c κs = search needs
 
--- src/lib.rt:84:14
+-- what the check said where it took the setting
+says : (c : tie.After-known-told) → checked (given (c .before .before .before .before)) ≡ checked·.Taken (c .before .s .given .0 .0)
+says c = sym (c .before .before .before .check .ensures) ∙ c .before .s .given .1
+
 mirrored-requires : tie.Need-mirrored-requires
-mirrored-requires c κs = subst Mirrorable (sym (c .quarter .ensures)) (mirrorable _ (asked (c .before)))
+mirrored-requires c κs = can-mirror _ _ (says (c .before)) (c .build .ensures)
 
--- src/lib.rt:72:1
 returns-2 : tie.Need-returns-2
-returns-2 c = let a = c .before .before .before .before .before .before .args in some-of (record { w = a .w; p = a .p; q = a .q }) _ (sym (c .before .before .before .before .before .check .ensures) ∙ c .before .before .before .s .given .1) (c .mirrored .ensures ∙ ap (λ (q : Quarter). penOf (whole (cornersOf q))) (c .before .quarter .ensures))
+returns-2 c = some-of _ _ (says (c .before .before)) (c .before .build .ensures) (c .mirrored .ensures)
 
 pub build-spec : {M : Type 1} → statement M
 build-spec =
@@ -102,6 +82,6 @@ build-spec =
     enum-told
     none-requires
     returns
-    quarter-requires
+    build-requires
     mirrored-requires
     returns-2)

@@ -14,7 +14,7 @@ use Rattle.pen.specs.Mirrored.{origin, cornersOf, Mirrorable, pushed}
 use Rattle.pen.specs.Answer.{penOf}
 use Rattle.pen.specs.Polygon.{Pt, pt, same, around, onceEach, closed, whole}
 use Rattle.pen.specs.declared.Pen.{Pen}
-use Rattle.pen.specs.declared.Quarter.{Quarter}
+use Rattle.quarter.specs.declared.Quarter.{Quarter}
 use lib.ListN.{length, getD, drop, length-append, drop-of-length-le}
 use mathlib.Core.Bool.{Bool, true, false, cond}
 use native.Mathlib.Omega.{arith}

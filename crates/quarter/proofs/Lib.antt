@@ -1,0 +1,28 @@
+-- Theorems has the claims of specs/Theorems.antt. The others in the order in which they are used:
+--   Slope, Naturals, NearRoot               arithmetic: directions, naturals as whole numbers, the near root
+--   Chain, Invariant, Pieces, Cuts, Rounds  what holds at every corner that is not yet put out, and that each round keeps it
+--   Progress, Sizes                         every moment: counts, sizes, the end
+--   Quarters, Ranges                        the quarter is a chain; where its corners lie
+--   Nearest, Rules                          the quarter is what document 01's steps put out
+--   Most, Halving, Stack, Laid              for the code: bounds of machine numbers, the search's loop, the stack, arrays of corners
+--   Cornered                                the answer, by the check of the setting
+pub mod Slope
+pub mod Naturals
+pub mod NearRoot
+pub mod Chain
+pub mod Invariant
+pub mod Pieces
+pub mod Cuts
+pub mod Rounds
+pub mod Progress
+pub mod Sizes
+pub mod Quarters
+pub mod Ranges
+pub mod Most
+pub mod Nearest
+pub mod Rules
+pub mod Theorems
+pub mod Halving
+pub mod Stack
+pub mod Laid
+pub mod Cornered

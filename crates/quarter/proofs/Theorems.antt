@@ -1,0 +1,34 @@
+-- The claims of specs/Theorems.antt, each under its name there.
+use Rattle.quarter.specs.Theorems.{NearRootHolds, NearRootUnique, StepsFall, QuarterPuts, AtMost33, EndsWithQuarter, NothingBelowZero, QuarterFew, QuarterBox}
+use Rattle.quarter.proofs.NearRoot.{nearRoot-ok, nearRoot-one}
+use Rattle.quarter.proofs.Progress.{falls-put, falls-on, ends-with}
+use Rattle.quarter.proofs.Sizes.{at-most, ready}
+use Rattle.quarter.proofs.Ranges.{few-corners, in-box}
+use Rattle.quarter.proofs.Rules.{puts-quarter}
+
+pub near-root-holds : NearRootHolds
+near-root-holds = nearRoot-ok
+
+pub near-root-unique : NearRootUnique
+near-root-unique = nearRoot-one
+
+pub steps-fall : StepsFall
+steps-fall σ τ out t m = (λ r e. falls-put σ τ m e, λ r e. falls-on σ τ m e)
+
+pub quarter-puts : QuarterPuts
+quarter-puts = puts-quarter
+
+pub at-most-33 : AtMost33
+at-most-33 σ τ out t m = at-most σ τ m
+
+pub ends-with-quarter : EndsWithQuarter
+ends-with-quarter σ τ out t m e = ends-with σ τ m e
+
+pub nothing-below-zero : NothingBelowZero
+nothing-below-zero σ τ out t m R rest e = ready σ τ m e
+
+pub quarter-few : QuarterFew
+quarter-few = few-corners
+
+pub quarter-box : QuarterBox
+quarter-box = in-box
