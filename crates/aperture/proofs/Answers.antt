@@ -1,34 +1,13 @@
 -- What defining, removing and looking up answer, by the cases of their checks: each check's answer is put into the definition, which then computes.
 use Prim.Native.Nat.{ℕ, _-_}
-use mathlib.Core.Path.{_≡_, refl}
-use mathlib.Core.Bool.{Bool, true, false}
-use native.Mathlib.Omega.{arith}
-use Rattle.pen.specs.declared.Setting.{Setting}
-use Rattle.pen.specs.Refusal.{aperture, setting, inUse}
-use Rattle.pen.specs.Setting.{taken}
-use Rattle.pen.specs.Answer.{checked}
-use Rattle.pen.specs.declared.Checked.{Checked}
-use Rattle.pen.specs.declared.Checked.the-variants as checked·
+use mathlib.Core.Path.{_≡_}
+use mathlib.Core.Bool.{true, false}
+use Rattle.setting.specs.declared.Setting.{Setting}
+use Rattle.setting.specs.Refusal.{aperture, setting, inUse}
+use Rattle.setting.specs.Setting.{taken}
 use Rattle.aperture.specs.declared.Table.{Table}
 use Rattle.aperture.specs.declared.Looked.the-variants as looked·
 use Rattle.aperture.specs.Table.{vacant, holding, isNumber, isHeld, placeOf, withPlace, refused, done, defined, removed, looked}
-
--- ---- what the check of a setting says
-pub checked-taken : (σ s : Setting) → checked σ ≡ checked·.Taken s → (taken σ ≡ true) × (σ ≡ s)
-unfolding checked
-checked-taken σ s e = go (taken σ) refl e
-  where
-    go : (t : Bool) → taken σ ≡ t → (elim t as (λ _. Checked) [ true ↦ checked·.Taken σ | false ↦ checked·.Refused ]) ≡ checked·.Taken s → (taken σ ≡ true) × (σ ≡ s)
-    go true h e = (h, cc)
-    go false h e = absurd (let z : _≡_ {A = ℕ} 0 1 = cc in omega arith)
-
-pub checked-refused : (σ : Setting) → checked σ ≡ checked·.Refused → taken σ ≡ false
-unfolding checked
-checked-refused σ e = go (taken σ) refl e
-  where
-    go : (t : Bool) → taken σ ≡ t → (elim t as (λ _. Checked) [ true ↦ checked·.Taken σ | false ↦ checked·.Refused ]) ≡ checked·.Refused → taken σ ≡ false
-    go true h e = absurd (let z : _≡_ {A = ℕ} 0 1 = cc in omega arith)
-    go false h e = h
 
 -- ---- defining
 module _ (t : Table) (n : ℕ) (σ : Setting) where

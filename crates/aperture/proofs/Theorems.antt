@@ -9,10 +9,10 @@ use mathlib.Core.List.{List, [], _∷_}
 use native.Mathlib.Omega.{arith}
 use lib.ListN.{length, getD, set, replicate, length-set, length-replicate}
 use lib.Seq.{getD-set-same, getD-set-other}
-use Rattle.pen.specs.declared.Setting.{Setting}
-use Rattle.pen.specs.Refusal.{Refusal, number, aperture, setting, inUse}
-use Rattle.pen.specs.Setting.{Taken, taken}
-use Rattle.pen.proofs.Limits.{taken-iff}
+use Rattle.setting.specs.declared.Setting.{Setting}
+use Rattle.setting.specs.Refusal.{Refusal, number, aperture, setting, inUse}
+use Rattle.setting.specs.Setting.{Taken, taken}
+use Rattle.setting.proofs.Limits.{taken-iff}
 use Rattle.aperture.specs.declared.Place.{Place}
 use Rattle.aperture.specs.declared.Table.{Table}
 use Rattle.aperture.specs.declared.Changed.{Changed}

@@ -4,10 +4,10 @@ use mathlib.Core.Bool.{Bool, true, false, not, _&&_}
 use mathlib.Core.List.{List, [], _∷_}
 use lib.Dec.{leb}
 use lib.ListN.{getD, set, replicate}
-use Rattle.pen.specs.declared.Setting.{Setting}
+use Rattle.setting.specs.declared.Setting.{Setting}
 use Rattle.pen.specs.declared.Pen.{Pen}
-use Rattle.pen.specs.Refusal.{Refusal, number, aperture, setting, inUse}
-use Rattle.pen.specs.Setting.{taken}
+use Rattle.setting.specs.Refusal.{Refusal, number, aperture, setting, inUse}
+use Rattle.setting.specs.Setting.{taken}
 use Rattle.pen.specs.Polygon.{pen}
 use Rattle.pen.specs.Answer.{penOf}
 use Rattle.aperture.specs.declared.Place.{Place}

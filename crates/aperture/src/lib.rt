@@ -5,11 +5,11 @@
 // for whatever the places hold. What tables made here hold is said by specs/Reachable.antt.
 ghost use mathlib.Core.Path.{_≡_};
 ghost use mathlib.Core.Bool.{true};
-ghost use Rattle.pen.specs.Setting.{Taken};
+ghost use Rattle.setting.specs.Setting.{Taken};
 ghost use Rattle.aperture.specs.Table.{isNumber, vacant, holding, empty, placeOf, withPlace, isHeld, defined, removed, looked};
-use pen::Checked;
 use pen::Pen;
-use pen::Setting;
+use setting::Checked;
+use setting::Setting;
 
 pub struct Place {
     pub used: bool,
@@ -53,7 +53,7 @@ pub fn define(t: Table, number: u64, w: u64, p: u64, q: u64) -> Changed
             table: t,
         };
     }
-    let Checked::Taken(s) = pen::check(w, p, q) else {
+    let Checked::Taken(s) = setting::check(w, p, q) else {
         return Changed {
             refusal: 1,
             table: t,

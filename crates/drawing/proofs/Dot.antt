@@ -6,12 +6,12 @@ use mathlib.Core.Bool.{true}
 use mathlib.Core.List.{List, [], _∷_, _++_}
 use lib.ListN.{length, getD}
 use lib.IntN.{pos}
-use Rattle.pen.specs.Setting.{Taken, taken, Dx, Dy}
-use Rattle.pen.specs.NearRoot.{norm, lower, tried, bisect, nearRoot}
-use Rattle.pen.specs.Cutting.{amount, retained, corners, quarter}
+use Rattle.setting.specs.Setting.{Taken, taken, Dx, Dy}
+use Rattle.quarter.specs.NearRoot.{norm, lower, tried, bisect, nearRoot}
+use Rattle.quarter.specs.Cutting.{amount, retained, corners, quarter}
 use Rattle.pen.specs.Polygon.{upAndBack, onceEach, pen}
 use Rattle.pen.specs.Laws.{chain, edges}
-use Rattle.pen.proofs.Limits.{taken-iff}
+use Rattle.setting.proofs.Limits.{taken-iff}
 use Rattle.aperture.specs.Table.{empty, holding, placeOf, defined}
 use Rattle.aperture.specs.Reachable.{Reachable, starts, defines}
 use Rattle.stroke.specs.Sides.{furthest, sides}

@@ -10,7 +10,7 @@ use lib.ListN.{length, getD, replicate, length-replicate, drop-of-length-le}
 use lib.IntN.{ℤ, pos}
 use borrow.Author.Tests.{le-leb}
 use Rattle.integers.proofs.Tests.{and-true}
-use Rattle.pen.specs.declared.Setting.{Setting}
+use Rattle.setting.specs.declared.Setting.{Setting}
 use Rattle.pen.specs.Polygon.{Pt, pen}
 use Rattle.pen.specs.Answer.{penCorners}
 use Rattle.pen.proofs.Laid.{corners-back}

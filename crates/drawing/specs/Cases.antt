@@ -3,10 +3,10 @@ use mathlib.Core.Path.{_≡_, refl}
 use mathlib.Core.List.{List, [], _∷_}
 use Prim.Native.Nat.{ℕ}
 use lib.IntN.{ℤ, pos}
-use Rattle.pen.specs.declared.Setting.{Setting}
-use Rattle.pen.specs.Setting.{taken, Dx, Dy}
-use Rattle.pen.specs.NearRoot.{norm, lower, tried, bisect, nearRoot}
-use Rattle.pen.specs.Cutting.{amount, retained, corners, quarter}
+use Rattle.setting.specs.declared.Setting.{Setting}
+use Rattle.setting.specs.Setting.{taken, Dx, Dy}
+use Rattle.quarter.specs.NearRoot.{norm, lower, tried, bisect, nearRoot}
+use Rattle.quarter.specs.Cutting.{amount, retained, corners, quarter}
 use Rattle.pen.specs.Polygon.{upAndBack, onceEach, pen}
 use Rattle.pen.specs.Laws.{chain, edges}
 use Rattle.stroke.specs.Sides.{furthest, sides}

@@ -7,8 +7,8 @@ use lib.Dec.{leb}
 use lib.ListN.{length, getD, replicate}
 use lib.Seq.{slice}
 use lib.IntN.{ℤ}
-use Rattle.pen.specs.declared.Setting.{Setting}
-use Rattle.pen.specs.Refusal.{Refusal, number, raster, room}
+use Rattle.setting.specs.declared.Setting.{Setting}
+use Rattle.setting.specs.Refusal.{Refusal, number, raster, room}
 use Rattle.aperture.specs.declared.Table.{Table}
 use Rattle.aperture.specs.Table.{empty, defined}
 use Rattle.row.specs.Answer.{packedLength}

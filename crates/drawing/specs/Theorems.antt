@@ -5,7 +5,7 @@ use mathlib.Core.Bool.{Bool, false, _||_}
 use mathlib.Core.List.{List}
 use lib.ListN.{length, getD}
 use lib.IntN.{pos}
-use Rattle.pen.specs.declared.Setting.{Setting}
+use Rattle.setting.specs.declared.Setting.{Setting}
 use Rattle.pen.specs.Polygon.{pen}
 use Rattle.stroke.specs.Runs.{blackAt}
 use Rattle.row.specs.declared.Verdict.the-variants.{Passed}

@@ -2,34 +2,27 @@
 use Prim.Native.Nat.{ℕ}
 use mathlib.Core.Path.{_≡_, refl, sym, ap, _∙_}
 use mathlib.Core.Bool.{Bool, true, false}
-use mathlib.Core.List.{List, []}
+use mathlib.Core.List.{List}
 use native.Mathlib.Omega.{arith}
 use lib.IntN.{pos}
-use Rattle.pen.specs.declared.Setting.{Setting}
+use Rattle.setting.specs.declared.Setting.{Setting}
 use Rattle.pen.specs.declared.Built.{Built}
-use Rattle.pen.specs.Setting.{taken}
+use Rattle.setting.specs.Setting.{taken}
 use Rattle.pen.specs.Polygon.{Pt, pen}
-use Rattle.pen.specs.Answer.{penOf, penCorners, built}
+use Rattle.pen.specs.Answer.{penCorners, built}
 use Rattle.pen.proofs.Laid.{corners-back}
+use Rattle.pen.proofs.Answers.{pen-built, none-built}
 use Rattle.stroke.specs.Runs.{rowRuns, blackAt}
 use Rattle.row.specs.Answer.{pathPoints}
 use Rattle.host.specs.Host.{entriesOf, bytesVerdict, refused, rowOutcome, hostRow, packedRowOutcome, hostPackedRow}
 
 -- what building the pen tells
-not-taken : (σ : Setting) → taken σ ≡ false → built σ ≡ record { refusal = 1; pen = penOf [] }
-unfolding built
-not-taken σ e = rw (built, e)
-
-is-taken : (σ : Setting) → taken σ ≡ true → built σ ≡ record { refusal = 0; pen = penOf (pen σ) }
-unfolding built
-is-taken σ e = rw (built, e)
-
 pub built-refused : (σ : Setting) (r : Built) → r ≡ built σ → ¬ (r .refusal ≡ 0) → taken σ ≡ false
 built-refused σ r e h = go (taken σ) refl
   where
     go : (t : Bool) → taken σ ≡ t → taken σ ≡ false
     go false q = q
-    go true q = absurd (h (ap (λ (r : Built). r .refusal) (e ∙ is-taken σ q)))
+    go true q = absurd (h (ap (λ (r : Built). r .refusal) (e ∙ pen-built σ q)))
 
 pub built-taken : (σ : Setting) (r : Built) → r ≡ built σ → r .refusal ≡ 0 → (taken σ ≡ true) × (penCorners (r .pen) ≡ pen σ)
 built-taken σ r e h = go (taken σ) refl
@@ -38,8 +31,8 @@ built-taken σ r e h = go (taken σ) refl
     one z = omega arith
 
     go : (t : Bool) → taken σ ≡ t → (taken σ ≡ true) × (penCorners (r .pen) ≡ pen σ)
-    go true q = (q, ap (λ (r : Built). penCorners (r .pen)) (e ∙ is-taken σ q) ∙ corners-back 132 (pen σ))
-    go false q = absurd (one (sym h ∙ ap (λ (r : Built). r .refusal) (e ∙ not-taken σ q)))
+    go true q = (q, ap (λ (r : Built). penCorners (r .pen)) (e ∙ pen-built σ q) ∙ corners-back 132 (pen σ))
+    go false q = absurd (one (sym h ∙ ap (λ (r : Built). r .refusal) (e ∙ none-built σ q)))
 
 -- ---- the two calls by their cases
 module _ (σ : Setting) (path : List ℕ) (columns rows j : ℕ) (b : List ℕ) where

@@ -9,7 +9,7 @@ use lib.Dec.{leb, ltb, eqb}
 use lib.IntN.{ℤ}
 use lib.ListN.{length}
 use Rattle.integers.proofs.Tests.{and-both, and-false}
-use Rattle.pen.specs.Refusal.{Refusal, number, path, raster, row, coordinate}
+use Rattle.setting.specs.Refusal.{Refusal, number, path, raster, row, coordinate}
 use Rattle.stroke.specs.Extent.{inRange}
 use Rattle.row.specs.declared.Verdict.{Verdict}
 use Rattle.row.specs.declared.Verdict.the-variants.{Passed, Refused}

@@ -6,9 +6,9 @@ use mathlib.Core.List.{List, [], _∷_, _++_}
 use lib.Dec.{leb, ltb, eqb}
 use lib.ListN.{length, drop}
 use lib.IntN.{ℤ, pos, _-ℤ_}
-use Rattle.pen.specs.declared.Setting.{Setting}
-use Rattle.pen.specs.Refusal.{Refusal, number, setting, path, room}
-use Rattle.pen.specs.Setting.{taken}
+use Rattle.setting.specs.declared.Setting.{Setting}
+use Rattle.setting.specs.Refusal.{Refusal, number, setting, path, room}
+use Rattle.setting.specs.Setting.{taken}
 use Rattle.pen.specs.Polygon.{Pt, pen}
 use Rattle.stroke.specs.Runs.{Run, blackAt, rowRuns}
 use Rattle.row.specs.declared.Verdict.{Verdict}

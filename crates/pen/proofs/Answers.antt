@@ -15,10 +15,10 @@ use Rattle.pen.specs.Answer.{penOf, checkedPen, built}
 answer : Checked → Built
 answer c = record { refusal = checkedNumber c; pen = penOf (checkedPen c) }
 
-pub built-taken : (σ : Setting) → taken σ ≡ true → built σ ≡ record { refusal = 0; pen = penOf (pen σ) }
+pub pen-built : (σ : Setting) → taken σ ≡ true → built σ ≡ record { refusal = 0; pen = penOf (pen σ) }
 unfolding built answer
-built-taken σ e = sym (ap answer (accepted σ e))
+pen-built σ e = sym (ap answer (accepted σ e))
 
-pub built-refused : (σ : Setting) → taken σ ≡ false → built σ ≡ record { refusal = 1; pen = penOf [] }
+pub none-built : (σ : Setting) → taken σ ≡ false → built σ ≡ record { refusal = 1; pen = penOf [] }
 unfolding built answer
-built-refused σ e = sym (ap answer (refused σ e))
+none-built σ e = sym (ap answer (refused σ e))

@@ -11,14 +11,15 @@ use Rattle.integers.specs.Orders.{_≼_}
 use Rattle.integers.specs.Count.{_∈_}
 use Rattle.integers.specs.Bound.{Abs}
 use Rattle.integers.proofs.Bound.{abs-le}
-use Rattle.pen.specs.declared.Setting.{Setting}
-use Rattle.pen.specs.Setting.{Taken, taken, Dx, Dy}
+use Rattle.setting.specs.declared.Setting.{Setting}
+use Rattle.setting.specs.Setting.{Taken, taken, Dx, Dy}
 use Rattle.pen.specs.Polygon.{Pt, pen}
 use Rattle.pen.specs.Answer.{penOf, built}
 use Rattle.pen.proofs.Images.{map-mem}
-use Rattle.pen.proofs.Laid.{laid-long, laid-small}
-use Rattle.pen.proofs.Limits.{taken-iff, box-wide, box-high}
+use Rattle.quarter.proofs.Laid.{laid-long, laid-small}
+use Rattle.setting.proofs.Limits.{taken-iff, box-wide, box-high}
 use Rattle.pen.proofs.Theorems.{pen-few, pen-is-pen}
+use Rattle.pen.proofs.Answers.{pen-built, none-built}
 use Rattle.pens.specs.Answer.{Encodable}
 
 both : (z : ℤ) (n : ℕ) → z ≼ pos n → negℤ z ≼ pos n → Abs z n
@@ -55,9 +56,8 @@ unfolding Small
 none-small z m = absurd (List·Memᴰ·not-nil m)
 
 pub encodable : (σ : Setting) → Encodable (built σ)
-unfolding built
 encodable σ = go (taken σ) refl
   where
     go : (t : Bool) → taken σ ≡ t → Encodable (built σ)
-    go true h = let τ = taken-iff σ .0 h in rw (h, built) (laid 0 (pen σ) (omega arith) (pen-few σ τ) (pen-small σ τ))
-    go false h = rw (h, built) (laid 1 [] (omega arith) (omega arith) none-small)
+    go true h = let τ = taken-iff σ .0 h in rw (pen-built σ h) (laid 0 (pen σ) (omega arith) (pen-few σ τ) (pen-small σ τ))
+    go false h = rw (none-built σ h) (laid 1 [] (omega arith) (omega arith) none-small)

@@ -7,7 +7,7 @@ use mathlib.Core.List.{List, map, _++_}
 use lib.Dec.{leb}
 use lib.ListN.{length, drop}
 use lib.IntN.{ℤ}
-use Rattle.pen.specs.Refusal.{number, aperture, room}
+use Rattle.setting.specs.Refusal.{number, aperture, room}
 use Rattle.stroke.specs.Runs as stroke
 use Rattle.stroke.specs.Runs.{rowRuns}
 use Rattle.aperture.specs.declared.Table.{Table}

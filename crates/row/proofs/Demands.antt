@@ -8,10 +8,10 @@ use lib.Dec.{leb, ltb, eqb}
 use lib.ListN.{length, drop}
 use lib.IntN.{ℤ, pos}
 use Rattle.integers.proofs.Tests.{and-true}
-use Rattle.pen.specs.declared.Setting.{Setting}
+use Rattle.setting.specs.declared.Setting.{Setting}
 use Rattle.pen.specs.Polygon.{Pt, pen}
 use Rattle.pen.specs.Answer.{penCorners}
-use Rattle.pen.specs.Refusal.{Refusal, number, path, raster, row, coordinate, room}
+use Rattle.setting.specs.Refusal.{Refusal, number, path, raster, row, coordinate, room}
 use Rattle.pen.proofs.Laid.{corners-back}
 use Rattle.aperture.specs.declared.Table.{Table}
 use Rattle.aperture.specs.declared.Place.{Place}

@@ -13,7 +13,7 @@ use lib.Signed.{leZ-yes, ltZ-yes}
 use lib.IntN.{ℤ, pos, _+ℤ_}
 use Rattle.integers.proofs.Count.{number-iff}
 use Rattle.integers.proofs.Tests.{clash}
-use Rattle.pen.specs.Setting.{Dy}
+use Rattle.setting.specs.Setting.{Dy}
 use Rattle.pen.specs.Polygon.{pen}
 use Rattle.pen.proofs.Theorems.{pen-is-pen}
 use Rattle.stroke.specs.Runs.{Run, holds, rowRuns, blackAt}

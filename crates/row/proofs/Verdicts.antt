@@ -10,7 +10,7 @@ use lib.ListN.{length, getD, drop}
 use lib.Seq.{drop-cons}
 use lib.IntN.{ℤ, pos}
 use Rattle.integers.proofs.Tests.{and-both}
-use Rattle.pen.specs.Refusal.{Refusal, number, coordinate, raster, row}
+use Rattle.setting.specs.Refusal.{Refusal, number, coordinate, raster, row}
 use Rattle.stroke.specs.Extent.{inRange}
 use Rattle.row.specs.declared.Verdict.{Verdict}
 use Rattle.row.specs.declared.Verdict.the-variants.{Passed, Refused}

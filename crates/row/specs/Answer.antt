@@ -7,7 +7,7 @@ use lib.ListN.{length, drop}
 use lib.IntN.{ℤ, pos}
 use Rattle.pen.specs.declared.Pen.{Pen}
 use Rattle.pen.specs.Polygon.{Pt, pt}
-use Rattle.pen.specs.Refusal.{Refusal, number, aperture, room}
+use Rattle.setting.specs.Refusal.{Refusal, number, aperture, room}
 use Rattle.stroke.specs.Runs.{Run, blackAt, rowRuns}
 use Rattle.row.specs.declared.Verdict.{Verdict}
 use Rattle.row.specs.declared.Verdict.the-variants.{Passed, Refused}

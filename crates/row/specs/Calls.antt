@@ -4,7 +4,7 @@ use mathlib.Core.List.{List}
 use lib.ListN.{getD}
 use lib.IntN.{ℤ}
 use Rattle.pen.specs.Polygon.{Pt}
-use Rattle.pen.specs.Refusal.{number, aperture}
+use Rattle.setting.specs.Refusal.{number, aperture}
 use Rattle.pen.specs.Answer.{penCorners}
 use Rattle.aperture.specs.declared.Table.{Table}
 use Rattle.aperture.specs.declared.Looked.the-variants.{At, Refused}

@@ -6,10 +6,10 @@ use mathlib.Core.List.{List, [], _∷_, map}
 use lib.Dec.{eqb}
 use lib.ListN.{length, replicate}
 use lib.IntN.{ℤ, pos, negℤ}
-use Rattle.pen.specs.declared.Setting.{Setting}
-use Rattle.pen.specs.Setting.{taken, Dx, Dy}
-use Rattle.pen.specs.NearRoot.{norm, lower, tried, bisect, nearRoot}
-use Rattle.pen.specs.Cutting.{amount, retained, corners, quarter}
+use Rattle.setting.specs.declared.Setting.{Setting}
+use Rattle.setting.specs.Setting.{taken, Dx, Dy}
+use Rattle.quarter.specs.NearRoot.{norm, lower, tried, bisect, nearRoot}
+use Rattle.quarter.specs.Cutting.{amount, retained, corners, quarter}
 use Rattle.pen.specs.Polygon.{Pt, pt, same, upward, upAndBack, onceEach, pen}
 use Rattle.pen.specs.Laws.{chain, edges}
 use Rattle.stroke.specs.Sides.{furthest, sides}

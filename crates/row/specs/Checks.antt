@@ -5,7 +5,7 @@ use mathlib.Core.List.{List, [], _∷_}
 use lib.Dec.{leb, ltb, eqb}
 use lib.ListN.{length}
 use lib.IntN.{ℤ}
-use Rattle.pen.specs.Refusal.{Refusal, number, path, coordinate, raster, row, aperture, room}
+use Rattle.setting.specs.Refusal.{Refusal, number, path, coordinate, raster, row, aperture, room}
 use Rattle.stroke.specs.Extent.{inRange}
 use Rattle.row.specs.declared.Verdict.{Verdict}
 use Rattle.row.specs.declared.Verdict.the-variants.{Passed, Refused}

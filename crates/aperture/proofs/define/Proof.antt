@@ -2,13 +2,14 @@
 use mathlib.Core.Path.{_≡_, sym, ap, subst, _∙_}
 use mathlib.Core.Bool.{true}
 use borrow.Author.Tests.{not-true, not-false}
-use Rattle.pen.specs.declared.Setting.{Setting}
-use Rattle.pen.specs.Setting.{Taken, taken}
-use Rattle.pen.proofs.Limits.{taken-iff}
+use Rattle.setting.specs.declared.Setting.{Setting}
+use Rattle.setting.specs.Setting.{Taken, taken}
+use Rattle.setting.proofs.Limits.{taken-iff}
+use Rattle.setting.proofs.Answers.{checked-taken, checked-refused}
 use Rattle.aperture.specs.declared.Place.{Place}
 use Rattle.aperture.specs.declared.Table.{Table}
 use Rattle.aperture.specs.Table.{isNumber, holding, withPlace, done}
-use Rattle.aperture.proofs.Answers.{checked-taken, checked-refused, not-number, not-taken, not-free, stores}
+use Rattle.aperture.proofs.Answers.{not-number, not-taken, not-free, stores}
 use borrow.Author.Needs.{needs}
 use Rattle.aperture.proofs.define.Statement.{statement}
 use Rattle.aperture.proofs.define.Tie as tie

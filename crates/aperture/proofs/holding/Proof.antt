@@ -1,20 +1,20 @@
 -- The pen of a setting within the limits is the one that the crate pen builds.
 use mathlib.Core.Path.{_≡_, ap, _∙_}
 use mathlib.Core.Bool.{true}
-use Rattle.pen.specs.declared.Setting.{Setting}
+use Rattle.setting.specs.declared.Setting.{Setting}
 use Rattle.pen.specs.declared.Pen.{Pen}
 use Rattle.pen.specs.declared.Built.{Built}
-use Rattle.pen.specs.Setting.{Taken}
+use Rattle.setting.specs.Setting.{Taken}
 use Rattle.pen.specs.Polygon.{pen}
 use Rattle.pen.specs.Answer.{penOf, built}
-use Rattle.pen.proofs.Limits.{taken-iff}
+use Rattle.setting.proofs.Limits.{taken-iff}
+use Rattle.pen.proofs.Answers.{pen-built}
 use borrow.Author.Needs.{needs}
 use Rattle.aperture.proofs.holding.Statement.{statement}
 use Rattle.aperture.proofs.holding.Tie as tie
 
 built-pen : (σ : Setting) → Taken σ → {b : Built} → b ≡ built σ → b .pen ≡ penOf (pen σ)
-unfolding built
-built-pen σ t e = let k = taken-iff σ .1 t in ap (λ (r : Built). r .pen) e ∙ rw (k, built)
+built-pen σ t e = ap (λ (r : Built). r .pen) (e ∙ pen-built σ (taken-iff σ .1 t))
 
 build-requires : tie.Need-build-requires
 build-requires c κs = search needs

@@ -16,7 +16,7 @@ use Rattle.pen.specs.Polygon.{Pt, whole, pen}
 use Rattle.pen.specs.Answer.{penOf, built}
 use Rattle.pen.specs.Mirrored.{cornersOf, Mirrorable}
 use Rattle.pen.proofs.Laid.{quarter-back, mirrorable}
-use Rattle.pen.proofs.Answers.{built-taken, built-refused}
+use Rattle.pen.proofs.Answers.{pen-built, none-built}
 use Rattle.pen.proofs.build.Statement.{statement}
 use Rattle.pen.proofs.build.Tie as tie
 use Rattle.pen.proofs.build.Reads as reads
@@ -27,7 +27,7 @@ use Rattle.quarter.proofs.build.Reads as build-reads
 use Rattle.setting.proofs.check.Reads as check-reads
 
 none-of : (σ : Setting) → checked σ ≡ checked·.Refused → {p : Pen} → p ≡ penOf [] → record { refusal = 1; pen = p } ≡ built σ
-none-of σ e h = ap (λ (q : Pen). record { refusal = 1; pen = q }) h ∙ sym (built-refused σ (checked-refused σ e))
+none-of σ e h = ap (λ (q : Pen). record { refusal = 1; pen = q }) h ∙ sym (none-built σ (checked-refused σ e))
 
 -- the quarter of a setting that the check took
 quarter-of : (σ s : Setting) → checked σ ≡ checked·.Taken s → cornered s ≡ quarterOf (quarter σ)
@@ -40,7 +40,7 @@ some-of : (σ s : Setting) → checked σ ≡ checked·.Taken s → {q : Quarter
 unfolding pen
 some-of σ s e k h =
     let corners = ap cornersOf (k ∙ quarter-of σ s e) ∙ quarter-back (quarter σ) in
-    ap (λ (p : Pen). record { refusal = 0; pen = p }) (h ∙ ap (λ (l : List Pt). penOf (whole l)) corners) ∙ sym (built-taken σ (checked-taken σ s e .0))
+    ap (λ (p : Pen). record { refusal = 0; pen = p }) (h ∙ ap (λ (l : List Pt). penOf (whole l)) corners) ∙ sym (pen-built σ (checked-taken σ s e .0))
 
 abbrev given : tie.Start → Setting
 given c = record { w = c .args .w; p = c .args .p; q = c .args .q }

@@ -1,7 +1,7 @@
 -- The test of the definition.
 use mathlib.Core.Path.{sym, _∙_}
 use borrow.Author.Needs.{needs}
-use Rattle.pen.specs.Refusal.{path}
+use Rattle.setting.specs.Refusal.{path}
 use Rattle.row.proofs.Verdicts.{passed, refused}
 use Rattle.row.proofs.checks.path_check.Statement.{statement}
 use Rattle.row.proofs.checks.path_check.Tie as tie

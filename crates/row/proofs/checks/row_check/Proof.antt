@@ -1,6 +1,6 @@
 -- The test of the definition.
 use borrow.Author.Tests.{lt-ltb, le-ltb}
-use Rattle.pen.specs.Refusal.{row}
+use Rattle.setting.specs.Refusal.{row}
 use Rattle.row.proofs.Verdicts.{passed, refused}
 use Rattle.row.proofs.checks.row_check.Statement.{statement}
 use Rattle.row.proofs.checks.row_check.Tie as tie
