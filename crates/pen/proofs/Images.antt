@@ -30,7 +30,7 @@ abbrev pub onwards : Pt → List Pt → List Pt
 onwards c q = upAndBack q (flipped c ∷ turned c ∷ map turned (upAndBack q (flipped c ∷ [])))
 
 -- ---- how many they are
-side-length : (q l : List Pt) → length (upAndBack q l) ≡ length q + length q + length l
+pub side-length : (q l : List Pt) → length (upAndBack q l) ≡ length q + length q + length l
 unfolding upAndBack
 side-length [] l = omega arith
 side-length (z ∷ q) l = omega (arith, side-length q (flipped z ∷ l))

@@ -2,7 +2,7 @@
 --   Convex                             a quarter is convex: its corners are a chain of ever steeper edges
 --   Once, Images, Fits, Around, Whole  the whole polygon of a convex quarter satisfies the laws of a pen
 --   PenLaw                             so does the pen of a setting
---   Laid, Walk                         for the code: arrays of points, and what stands at each place of the walk around the polygon
+--   Laid, Walk, Opposites              for the code: arrays of points, what stands at each place of the walk around the polygon, and opposites as i8
 --   Answers                            what building answers, by the test of the setting's limits
 pub mod Convex
 pub mod Once
@@ -14,4 +14,5 @@ pub mod PenLaw
 pub mod Theorems
 pub mod Laid
 pub mod Walk
+pub mod Opposites
 pub mod Answers

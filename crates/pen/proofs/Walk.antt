@@ -3,14 +3,14 @@ use Prim.Native.Nat.{ℕ, zero, suc, _+_, _*_, _-_, _≤_, _<_}
 use mathlib.Core.Path.{_≡_, refl, sym, ap, ap₂, subst, _∙_}
 use mathlib.Core.List.{List, [], _∷_, _++_, map}
 use native.Mathlib.Omega.{arith}
-use lib.ListN.{length, getD, take, List·getD-map}
-use lib.Seq.{getD-take, length-take-le}
+use lib.ListN.{length, getD, take, List·getD-map, List·getD-append}
+use lib.Seq.{getD-take, length-take-le, getD-append-add}
 use lib.IntN.{ℤ, pos, negℤ}
-use Rattle.pen.specs.Polygon.{Pt, pt, flipped, turned, upAndBack, around}
+use Rattle.pen.specs.Polygon.{Pt, pt, flipped, turned, upAndBack, side, around}
 use Rattle.pen.specs.Answer.{points, corners}
 use Rattle.quarter.specs.declared.Quarter.{Quarter}
 use Rattle.pen.specs.Mirrored.{origin, cornersOf, Mirrorable}
-use Rattle.pen.proofs.Images.{neg-neg, around-length}
+use Rattle.pen.proofs.Images.{side-length, around-length}
 
 -- ---- the points of two arrays
 points-at : (xs ys : List ℤ) (i : ℕ) → i < length xs → i < length ys → getD (points xs ys) i origin ≡ pt (getD xs i (pos 0)) (getD ys i (pos 0))
@@ -62,29 +62,28 @@ back (z ∷ q) l (suc k) h = rw e (back q (flipped z ∷ l) k (omega arith))
     e : 2 * suc (length q) - 1 - suc k ≡ suc (2 * length q - 1 - k)
     e = omega arith
 
--- ---- the four quarters of the walk, each from its own end
+-- ---- the walk is the right side and the same turned by half a turn
+append-side : (q l m : List Pt) → upAndBack q (l ++ m) ≡ upAndBack q l ++ m
+unfolding upAndBack
+append-side [] l m = refl
+append-side (z ∷ q) l m = ap (λ (r : List Pt). z ∷ r) (append-side q (flipped z ∷ l) m)
+
 module _ (q : List Pt) where
-  pub walk-1 : (i : ℕ) → i < length q → getD (around q) i origin ≡ getD q i origin
-  walk-1 i h = up q _ i h
+  halves : around q ≡ side q ++ map turned (side q)
+  halves = append-side q [] (map turned (side q))
 
-  pub walk-2 : (k : ℕ) → k < length q → getD (around q) (2 * length q - 1 - k) origin ≡ flipped (getD q k origin)
-  walk-2 k h = back q _ k h
+  side-long : length (side q) ≡ 2 * length q
+  side-long = omega (arith, side-length q [])
 
-  turned-at : (i : ℕ) → getD (around q) (2 * length q + i) origin ≡ turned (getD (upAndBack q []) i origin)
-  turned-at i = past q _ i ∙ List·getD-map turned (upAndBack q []) i origin
+  first-half : (i : ℕ) → i < length (side q) → getD (side q) i origin ≡ getD (around q) i origin
+  first-half i h = sym (ap (λ (l : List Pt). getD l i origin) halves ∙ List·getD-append (side q) (map turned (side q)) origin i h)
 
-  pub walk-3 : (k : ℕ) → k < length q → getD (around q) (2 * length q + k) origin ≡ turned (getD q k origin)
-  walk-3 k h = turned-at k ∙ ap turned (up q [] k h)
+  second-half : (i : ℕ) → turned (getD (side q) i origin) ≡ getD (around q) (length (side q) + i) origin
+  second-half i =
+      sym (ap (λ (l : List Pt). getD l (length (side q) + i) origin) halves
+      ∙ getD-append-add (side q) (map turned (side q)) i origin ∙ List·getD-map turned (side q) i origin)
 
-  pub walk-4 : (k : ℕ) → k < length q → getD (around q) (4 * length q - 1 - k) origin ≡ pt (negℤ (getD q k origin .x)) (getD q k origin .y)
-  walk-4 k h =
-      ap (λ (i : ℕ). getD (around q) i origin) e ∙ turned-at (2 * length q - 1 - k) ∙ ap turned (back q [] k h)
-      ∙ ap (λ (y : ℤ). pt (negℤ (getD q k origin .x)) y) (neg-neg (getD q k origin .y))
-    where
-      e : 4 * length q - 1 - k ≡ 2 * length q + (2 * length q - 1 - k)
-      e = omega arith
-
--- ---- the same for the code's arrays: place i of the walk, by the corner k that it comes from
+-- ---- the same for the code's arrays: place i, by the corner k that it comes from
 module _ (q : Quarter) (m : Mirrorable q) where
   count : length (cornersOf q) ≡ q .count
   count = corners-length (q .count) (q .x) (q .y) (omega (arith, m .few, m .x-long)) (omega (arith, m .few, m .y-long))
@@ -92,25 +91,22 @@ module _ (q : Quarter) (m : Mirrorable q) where
   corner : (k : ℕ) → k < q .count → getD (cornersOf q) k origin ≡ pt (getD (q .x) k (pos 0)) (getD (q .y) k (pos 0))
   corner k h = corner-at (q .count) (q .x) (q .y) (omega (arith, m .few, m .x-long)) (omega (arith, m .few, m .y-long)) k h
 
-  at : (i j : ℕ) {z : Pt} → i ≡ j → getD (around (cornersOf q)) j origin ≡ z → z ≡ getD (around (cornersOf q)) i origin
-  at i j e h = sym h ∙ ap (λ (k : ℕ). getD (around (cornersOf q)) k origin) (sym e)
+  pub going-up : (i : ℕ) → i < q .count → pt (getD (q .x) i (pos 0)) (getD (q .y) i (pos 0)) ≡ getD (side (cornersOf q)) i origin
+  going-up i h = sym (up (cornersOf q) [] i (omega (arith, count)) ∙ corner i h)
 
-  pub place-1 : (i : ℕ) → i < q .count → pt (getD (q .x) i (pos 0)) (getD (q .y) i (pos 0)) ≡ getD (around (cornersOf q)) i origin
-  place-1 i h = at i i refl (walk-1 (cornersOf q) i (omega (arith, count)) ∙ corner i h)
+  pub going-back : (i k : ℕ) → k < q .count → i ≡ 2 * q .count - 1 - k →
+      pt (getD (q .x) k (pos 0)) (negℤ (getD (q .y) k (pos 0))) ≡ getD (side (cornersOf q)) i origin
+  going-back i k h e =
+      let j : 2 * length (cornersOf q) - 1 - k ≡ i = omega (arith, count) in
+      sym (back (cornersOf q) [] k (omega (arith, count)) ∙ ap flipped (corner k h)) ∙ ap (λ (j : ℕ). getD (side (cornersOf q)) j origin) j
 
-  pub place-2 : (i k : ℕ) → k < q .count → i ≡ 2 * q .count - 1 - k →
-      pt (getD (q .x) k (pos 0)) (negℤ (getD (q .y) k (pos 0))) ≡ getD (around (cornersOf q)) i origin
-  place-2 i k h e = at i (2 * length (cornersOf q) - 1 - k) (omega (arith, count)) (walk-2 (cornersOf q) k (omega (arith, count)) ∙ ap flipped (corner k h))
+  pub right-half : (i : ℕ) → i < 2 * q .count → getD (side (cornersOf q)) i origin ≡ getD (around (cornersOf q)) i origin
+  right-half i h = first-half (cornersOf q) i (omega (arith, side-long (cornersOf q), count))
 
-  pub place-3 : (i k : ℕ) → k < q .count → i ≡ 2 * q .count + k →
-      pt (negℤ (getD (q .x) k (pos 0))) (negℤ (getD (q .y) k (pos 0))) ≡ getD (around (cornersOf q)) i origin
-  place-3 i k h e = at i (2 * length (cornersOf q) + k) (omega (arith, count)) (walk-3 (cornersOf q) k (omega (arith, count)) ∙ ap turned (corner k h))
-
-  pub place-4 : (i k : ℕ) → k < q .count → i ≡ 4 * q .count - 1 - k →
-      pt (negℤ (getD (q .x) k (pos 0))) (getD (q .y) k (pos 0)) ≡ getD (around (cornersOf q)) i origin
-  place-4 i k h e =
-      at i (4 * length (cornersOf q) - 1 - k) (omega (arith, count))
-      (walk-4 (cornersOf q) k (omega (arith, count)) ∙ ap (λ (z : Pt). pt (negℤ (z .x)) (z .y)) (corner k h))
+  pub left-half : (i : ℕ) → 2 * q .count ≤ i → turned (getD (side (cornersOf q)) (i - 2 * q .count) origin) ≡ getD (around (cornersOf q)) i origin
+  left-half i h =
+      let j : length (side (cornersOf q)) + (i - 2 * q .count) ≡ i = omega (arith, side-long (cornersOf q), count) in
+      second-half (cornersOf q) (i - 2 * q .count) ∙ ap (λ (j : ℕ). getD (around (cornersOf q)) j origin) j
 
   pub walk-long : length (around (cornersOf q)) ≡ 4 * q .count
   walk-long = around-length (cornersOf q) ∙ ap (λ (n : ℕ). 4 * n) count

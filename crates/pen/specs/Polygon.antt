@@ -35,8 +35,11 @@ upAndBack [] l = l
 upAndBack (z ∷ q) l = z ∷ upAndBack q (flipped z ∷ l)
 
 -- counterclockwise from the bottom: the right side, and the same turned by half a turn, which is the left side
+abbrev pub side : List Pt → List Pt
+side q = upAndBack q []
+
 abbrev pub around : List Pt → List Pt
-around q = upAndBack q (map turned (upAndBack q []))
+around q = upAndBack q (map turned (side q))
 
 -- p and l without each corner that equals the next one, which after the last is f
 unfoldable pub onceEach : Pt → Pt → List Pt → List Pt

@@ -6,7 +6,7 @@ ghost use mathlib.Core.List.{[]};
 ghost use Prim.Native.Nat.{_*_, _<_};
 ghost use lib.ListN.{getD};
 ghost use Rattle.integers.specs.Bound.{Abs};
-ghost use Rattle.pen.specs.Polygon.{pt, same, around, whole};
+ghost use Rattle.pen.specs.Polygon.{pt, same, side, around, whole};
 ghost use Rattle.pen.specs.Answer.{penOf};
 ghost use Rattle.pen.specs.Mirrored.{Mirrorable, cornersOf, pointOf, pushed, origin};
 
@@ -26,11 +26,10 @@ pub fn none() -> Pen
     }
 }
 
-// Corner i of the walk around the polygon: up the quarter, back along its mirror image in the x
-// axis, and the same turned by half a turn.
-fn corner_at(q: Quarter, i: usize) -> Point
-    requires { ⌜ Mirrorable q ⌝ ∗ ⌜ i < 4 * q .count ⌝ }
-    ensures { λ r. ⌜ pointOf r ≡ getD (around (cornersOf q)) i origin ⌝ ∗ ⌜ Abs (r .x) 32 × Abs (r .y) 32 ⌝ }
+// Corner i of the right side: up the quarter, and back along its mirror image in the x axis.
+fn right_side(q: Quarter, i: usize) -> Point
+    requires { ⌜ Mirrorable q ⌝ ∗ ⌜ i < 2 * q .count ⌝ }
+    ensures { λ r. ⌜ pointOf r ≡ getD (side (cornersOf q)) i origin ⌝ ∗ ⌜ Abs (r .x) 32 × Abs (r .y) 32 ⌝ }
 {
     let n = q.count;
     if i < n {
@@ -39,25 +38,24 @@ fn corner_at(q: Quarter, i: usize) -> Point
             y: q.y[i],
         };
     }
-    if i < 2 * n {
-        let k = 2 * n - 1 - i;
-        return Point {
-            x: q.x[k],
-            y: -q.y[k],
-        };
-    }
-    if i < 3 * n {
-        let k = i - 2 * n;
-        return Point {
-            x: -q.x[k],
-            y: -q.y[k],
-        };
-    }
-    let k = 4 * n - 1 - i;
+    let k = 2 * n - 1 - i;
     Point {
-        x: -q.x[k],
-        y: q.y[k],
+        x: q.x[k],
+        y: -q.y[k],
     }
+}
+
+// Corner i of the walk around the polygon: the right side, and the same turned by half a turn.
+fn corner_at(q: Quarter, i: usize) -> Point
+    requires { ⌜ Mirrorable q ⌝ ∗ ⌜ i < 4 * q .count ⌝ }
+    ensures { λ r. ⌜ pointOf r ≡ getD (around (cornersOf q)) i origin ⌝ ∗ ⌜ Abs (r .x) 32 × Abs (r .y) 32 ⌝ }
+{
+    let half = 2 * q.count;
+    if i < half {
+        return right_side(q, i);
+    }
+    let r = right_side(q, i - half);
+    Point { x: -r.x, y: -r.y }
 }
 
 fn equal(ax: i8, ay: i8, bx: i8, by: i8) -> bool

@@ -14,7 +14,7 @@ returns c =
     let f = c .before .fits in
     eqZ-at (par (f .ay)) (par (f .by)) ∙ true-and _ _ (sym (eqZ-at (par (f .ax)) (par (f .bx))) ∙ eq-eqb _ _ (c .if1 .taken))
 
--- src/polygon.rt:62:1
+-- src/polygon.rt:61:1
 returns-2 : tie.Need-returns-2
 returns-2 c =
     let f = c .before .fits in

@@ -104,43 +104,43 @@ abbrev μ-loop : tie.MeasureT-loop
 point : {r : Point} {z : Pt} → (pointOf r ≡ z) × (Abs (r .x) 32 × Abs (r .y) 32) → pt (toZ w8 (ofZ w8 (r .x))) (toZ w8 (ofZ w8 (r .y))) ≡ z
 point h = ap₂ pt (known {w = w8} (h .1 .0) tt .reads) (known {w = w8} (h .1 .1) tt .reads) ∙ h .0
 
--- src/polygon.rt:89:9
+-- src/polygon.rt:88:9
 none-requires : tie.Need-none-requires Inv-loop μ-loop
 none-requires c κs = tt
 
--- src/polygon.rt:91:5
+-- src/polygon.rt:90:5
 loop-holds : tie.Need-loop-holds Inv-loop μ-loop
 loop-holds c = let m = c .before .pre in (m, refl, omega arith, omega (arith, m .some), begun (c .before .args .q) m (c .none .ensures))
 
--- src/polygon.rt:91:15
+-- src/polygon.rt:90:15
 mul-loop : tie.Need-mul-loop Inv-loop μ-loop
 mul-loop c = record { fits = omega (arith, c .loop .inv .0 .few) }
 
--- src/polygon.rt:92:30
+-- src/polygon.rt:91:30
 sub-corner-at : tie.Need-sub-corner-at Inv-loop μ-loop
 sub-corner-at c = c .before .loop .inv .2
 
--- src/polygon.rt:92:13
+-- src/polygon.rt:91:13
 corner-at-requires : tie.Need-corner-at-requires Inv-loop μ-loop
 corner-at-requires c κs = (c .before .loop .inv .0, omega (arith, c .loop-test .taken, c .before .loop .inv .2))
 
--- src/polygon.rt:93:13
+-- src/polygon.rt:92:13
 corner-at-requires-2 : tie.Need-corner-at-requires-2 Inv-loop μ-loop
 corner-at-requires-2 c κs = (c .before .before .loop .inv .0, c .before .loop-test .taken)
 
--- src/polygon.rt:94:9
+-- src/polygon.rt:93:9
 push-requires : tie.Need-push-requires Inv-loop μ-loop
 push-requires c κs = let i = c .before .before .before .before .before .before .before .loop .inv in room (i .4) (omega (arith, i .0 .few, c .before .before .before .before .before .before .loop-test .taken))
 
--- src/polygon.rt:95:9
+-- src/polygon.rt:94:9
 add-i : tie.Need-add-i Inv-loop μ-loop
 add-i c = let i = c .before .before .before .before .before .before .before .before .loop .inv in record { fits = omega (arith, i .0 .few, c .before .before .before .before .before .before .before .loop-test .taken) }
 
--- src/polygon.rt:91:5
+-- src/polygon.rt:90:5
 loop-less : tie.Need-loop-less Inv-loop μ-loop
 loop-less c = omega (arith, c .before .before .before .before .before .before .before .loop-test .taken)
 
--- src/polygon.rt:91:5
+-- src/polygon.rt:90:5
 loop-again : tie.Need-loop-again Inv-loop μ-loop
 loop-again c =
     let i = c .before .before .before .before .before .before .before .before .loop .inv in
@@ -149,27 +149,27 @@ loop-again c =
     let b = c .before .before .before .before .before .corner-at2 .ensures in
     (i .0, refl, omega arith, omega (arith, t), further (c .before .before .before .before .before .before .before .before .before .before .args .q) (i .0) (i .4) (i .2) t (c .push .ensures ∙ ap₂ (pushed (c .before .before .before .before .before .before .before .before .loop .p)) (point a) (point b)))
 
--- src/polygon.rt:97:26
+-- src/polygon.rt:96:26
 mul-corner-at : tie.Need-mul-corner-at Inv-loop μ-loop
 mul-corner-at c = record { fits = omega (arith, c .before .loop .inv .0 .few) }
 
--- src/polygon.rt:97:26
+-- src/polygon.rt:96:26
 sub-corner-at-2 : tie.Need-sub-corner-at-2 Inv-loop μ-loop
 sub-corner-at-2 c = omega (arith, c .before .loop .inv .0 .some)
 
--- src/polygon.rt:97:9
+-- src/polygon.rt:96:9
 corner-at-requires-3 : tie.Need-corner-at-requires-3 Inv-loop μ-loop
 corner-at-requires-3 c κs = (c .before .loop .inv .0, omega (arith, c .before .loop .inv .0 .some))
 
--- src/polygon.rt:98:9
+-- src/polygon.rt:97:9
 corner-at-requires-4 : tie.Need-corner-at-requires-4 Inv-loop μ-loop
 corner-at-requires-4 c κs = (c .before .before .loop .inv .0, omega (arith, c .before .before .loop .inv .0 .some))
 
--- src/polygon.rt:99:5
+-- src/polygon.rt:98:5
 push-requires-2 : tie.Need-push-requires-2 Inv-loop μ-loop
 push-requires-2 c κs = let i = c .before .before .before .before .before .before .before .loop .inv in room (i .4) (omega (arith, i .0 .few, i .3))
 
--- src/polygon.rt:84:1
+-- src/polygon.rt:83:1
 returns : tie.Need-returns Inv-loop μ-loop
 returns c =
     let i = c .before .before .before .before .before .before .before .before .loop .inv in

@@ -28,27 +28,27 @@ told c =
     let f = c .before .fits in
     c .equal .ensures ∙ ap₂ same (ap₂ pt (par {w = w8} (f .ax) .reads) (par {w = w8} (f .ay) .reads)) (ap₂ pt (par {w = w8} (f .bx) .reads) (par {w = w8} (f .by) .reads))
 
--- src/polygon.rt:73:8
+-- src/polygon.rt:72:8
 equal-requires : tie.Need-equal-requires
 equal-requires c κs = search needs
 
--- src/polygon.rt:74:9
+-- src/polygon.rt:73:9
 returns : tie.Need-returns
 returns c = let a = c .before .before .args in skipped (a .p) (pt (a .ax) (a .ay)) (pt (a .bx) (a .by)) (sym (told (c .before)) ∙ c .if1 .taken)
 
--- src/polygon.rt:78:5
+-- src/polygon.rt:77:5
 element-set-from-ax : tie.Need-element-set-from-ax
 element-set-from-ax c = search needs
 
--- src/polygon.rt:79:5
+-- src/polygon.rt:78:5
 element-set-from-ay : tie.Need-element-set-from-ay
 element-set-from-ay c = search needs
 
--- src/polygon.rt:80:15
+-- src/polygon.rt:79:15
 add-r : tie.Need-add-r
 add-r c = search needs
 
--- src/polygon.rt:69:1
+-- src/polygon.rt:68:1
 returns-2 : tie.Need-returns-2
 returns-2 c =
     let f = c .before .before .fits in

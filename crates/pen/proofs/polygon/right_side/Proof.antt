@@ -1,0 +1,70 @@
+-- Up the quarter the corner is read as it stands; on the way back its y has the other sign, which is no further out.
+use mathlib.Core.Path.{_≡_, ap₂, _∙_}
+use Prim.Native.Nat.{_*_, _-_, _<_}
+use native.Mathlib.Omega.{arith}
+use borrow.Author.Needs.{needs}
+use Rattle.pen.specs.Polygon.{pt}
+use Rattle.pen.proofs.Opposites.{itself, opposite-fits, opposite, small, small-opposite}
+use Rattle.pen.proofs.Walk.{going-up, going-back}
+use Rattle.pen.proofs.polygon.right_side.Statement.{statement}
+use Rattle.pen.proofs.polygon.right_side.Tie as tie
+use Rattle.pen.proofs.polygon.right_side.Reads as reads
+use Rattle.pen.proofs.polygon.right_side.Lts as lts
+
+element-copy-out-t9 : tie.Need-element-copy-out-t9
+element-copy-out-t9 c = search needs
+
+element-copy-out-t12 : tie.Need-element-copy-out-t12
+element-copy-out-t12 c = search needs
+
+returns : tie.Need-returns
+returns c =
+    let a = c .before .before .before .args in
+    let p = c .before .before .before .pre in
+    let h = c .before .before .if1 .taken in
+    let x = p .0 .x-small (a .i) h in
+    let y = p .0 .y-small (a .i) h in
+    (ap₂ pt (itself x) (itself y) ∙ going-up (a .t1) (p .0) (a .i) h, (small x, small y))
+
+mul-k : tie.Need-mul-k
+mul-k c = search needs
+
+sub-k : tie.Need-sub-k
+sub-k c = search needs
+
+sub-k-2 : tie.Need-sub-k-2
+sub-k-2 c = search needs
+
+element-copy-out-t17 : tie.Need-element-copy-out-t17
+element-copy-out-t17 c = search needs
+
+element-copy-out-t20 : tie.Need-element-copy-out-t20
+element-copy-out-t20 c = search needs
+
+sub-t21 : tie.Need-sub-t21
+sub-t21 c = let s = c .before .before .before in opposite-fits (s .pre .0 .y-small (2 * s .args .t1 .count - 1 - s .args .i) (omega (arith, s .pre .1)))
+
+returns-2 : tie.Need-returns-2
+returns-2 c =
+    let s = c .before .before .before in
+    let n = s .args .t1 .count in
+    let k = 2 * n - 1 - s .args .i in
+    let h : k < n = omega (arith, s .pre .1) in
+    let x = s .pre .0 .x-small k h in
+    let y = s .pre .0 .y-small k h in
+    (ap₂ pt (itself x) (opposite y) ∙ going-back (s .args .t1) (s .pre .0) (s .args .i) k h (omega (arith, s .pre .1)), (small x, small-opposite y))
+
+pub right-side-spec : {M : Type 1} → statement M
+right-side-spec =
+    tie.close
+    (tie.spec
+    element-copy-out-t9
+    element-copy-out-t12
+    returns
+    mul-k
+    sub-k
+    sub-k-2
+    element-copy-out-t17
+    element-copy-out-t20
+    sub-t21
+    returns-2)
