@@ -3,6 +3,8 @@
 use crate::limit::Limits;
 use crate::limit::all;
 use crate::limit::narrow;
+use integers::max;
+use integers::min;
 ghost use mathlib.Core.Path.{_≡_};
 ghost use mathlib.Core.Bool.{cond};
 ghost use mathlib.Core.List.{List, map};
@@ -11,7 +13,6 @@ ghost use lib.Dec.{ltb};
 ghost use lib.IntN.{ℤ, pos};
 ghost use lib.ListN.{length};
 ghost use Rattle.integers.specs.Bound.{Abs};
-ghost use Rattle.integers.specs.Compare.{maxZ, minZ};
 ghost use Rattle.pen.specs.Polygon.{pt};
 ghost use Rattle.pen.specs.Laws.{edge, edges, reach};
 ghost use Rattle.pen.specs.Answer.{corners};
@@ -32,18 +33,6 @@ fn wide(x: i8) -> i64
     ensures { λ r. ⌜ r ≡ x ⌝ ∗ ⌜ Abs r 128 ⌝ }
 {
     x as i64
-}
-
-fn max(a: i64, b: i64) -> i64
-    ensures { λ r. ⌜ r ≡ maxZ a b ⌝ }
-{
-    if a <= b { b } else { a }
-}
-
-fn min(a: i64, b: i64) -> i64
-    ensures { λ r. ⌜ r ≡ minZ a b ⌝ }
-{
-    if a <= b { a } else { b }
 }
 
 // The corner after corner i of n, which after the last is the first.
