@@ -1,9 +1,10 @@
 -- The test of an aperture number, and of a place in use, and what they say.
 use Prim.Native.Nat.{ℕ, _-_, _≤_, _<_}
-use mathlib.Core.Path.{_≡_, refl}
+use mathlib.Core.Path.{_≡_}
 use mathlib.Core.Logic.{_↔_}
-use mathlib.Core.Bool.{Bool, true, false, _&&_}
+use mathlib.Core.Bool.{Bool, true, false}
 use native.Mathlib.Omega.{arith}
+use Rattle.integers.proofs.Tests.{and-both}
 use Rattle.setting.proofs.Limits.{within-iff}
 use Rattle.aperture.specs.declared.Table.{Table}
 use Rattle.aperture.specs.Table.{isNumber, isHeld, placeOf}
@@ -19,14 +20,9 @@ index-small n e = let k = number-iff n .0 e in omega arith
 pub index-other : (n m : ℕ) → isNumber n ≡ true → isNumber m ≡ true → ¬ (n ≡ m) → ¬ (m - 10 ≡ n - 10)
 index-other n m e f h k = let a = number-iff n .0 e in let b = number-iff m .0 f in h (omega arith)
 
--- a conjunction that holds has both its parts
-both : (a b : Bool) → (a && b) ≡ true → (a ≡ true) × (b ≡ true)
-both true b e = (refl, e)
-both false b e = absurd (let z : _≡_ {A = ℕ} 0 1 = cc in omega arith)
-
 -- the test of an aperture in use, taken apart and put together
 pub held-parts : (t : Table) (n : ℕ) → isHeld t n ≡ true → (isNumber n ≡ true) × (placeOf t n .used ≡ true)
-held-parts t n e = both _ _ e
+held-parts t n e = and-both _ _ e
 
 pub held-not : (t : Table) (n : ℕ) → isNumber n ≡ false → false ≡ isHeld t n
 held-not t n e = rw e

@@ -22,6 +22,13 @@ pub data Sound : Place → Type 0 where
   nothing : Sound vacant
   some : {σ : Setting} → Taken σ → Sound (holding σ)
 
+-- aperture n of a table so made holds the setting
+pub record Holds (t : Table) (n : ℕ) (σ : Setting) : Type 0 where
+  pub reachable : Reachable t
+  pub number : isNumber n ≡ true
+  pub taken : Taken σ
+  pub place : placeOf t n ≡ holding σ
+
 -- every table so made holds only pens of its settings
 abbrev pub ReachableSound : Type 0
 ReachableSound = (t : Table) → Reachable t → (n : ℕ) → Sound (placeOf t n)

@@ -8,8 +8,8 @@ use Rattle.setting.specs.declared.Setting.{Setting}
 use Rattle.pen.specs.declared.Pen.{Pen}
 use Rattle.setting.specs.Refusal.{Refusal, number, aperture, setting, inUse}
 use Rattle.setting.specs.Setting.{taken}
-use Rattle.pen.specs.Polygon.{pen}
-use Rattle.pen.specs.Answer.{penOf}
+use Rattle.pen.specs.Polygon.{Pt, pen}
+use Rattle.pen.specs.Answer.{penOf, penCorners}
 use Rattle.aperture.specs.declared.Place.{Place}
 use Rattle.aperture.specs.declared.Table.{Table}
 use Rattle.aperture.specs.declared.Changed.{Changed}
@@ -64,3 +64,12 @@ removed t n = elim (isHeld t n) [ false ↦ refused aperture t | true ↦ done (
 -- the place of an aperture that is in use
 unfoldable pub looked : Table → ℕ → Looked
 looked t n = elim (isHeld t n) [ false ↦ looked·.Refused | true ↦ looked·.At (n - 10) ]
+
+-- "For an answer that is an enum, a definition gives this paper's number .. for each of its cases"
+abbrev pub lookedNumber : Looked → ℕ
+lookedNumber (looked·.At i) = 0
+lookedNumber looked·.Refused = number aperture
+
+-- the corners of the pen at a place
+abbrev pub cornersAt : Table → ℕ → List Pt
+cornersAt t i = penCorners (getD (t .places) i vacant .pen)
