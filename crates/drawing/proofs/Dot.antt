@@ -13,15 +13,15 @@ use Rattle.pen.specs.Polygon.{upAndBack, onceEach, pen}
 use Rattle.pen.specs.Laws.{chain, edges}
 use Rattle.setting.proofs.Limits.{taken-iff}
 use Rattle.aperture.specs.Table.{empty, holding, placeOf, defined}
-use Rattle.aperture.specs.Reachable.{Reachable, starts, defines}
+use Rattle.aperture.specs.Reachable.{Reachable, starts, defines, Holds}
 use Rattle.stroke.specs.Sides.{furthest, sides}
 use Rattle.stroke.specs.Black.{kept}
-use Rattle.stroke.specs.Extent.{inRange, narrowed, extent}
+use Rattle.stroke.specs.Extent.{narrowed, extent}
+use Rattle.checks.specs.Checks.{inRange, coordinateFrom, verdict}
 use Rattle.stroke.specs.Runs.{blackAt}
-use Rattle.row.specs.declared.Verdict.the-variants.{Passed}
-use Rattle.row.specs.Checks.{coordinateFrom, verdict}
-use Rattle.row.specs.Answer.{pathPoints, bitsFrom, bytesFrom, packed}
-use Rattle.row.specs.Theorems.{Holds}
+use Rattle.checks.specs.declared.Verdict.the-variants.{Passed}
+use Rattle.stroke.specs.Sweep.{pathPoints}
+use Rattle.packed.specs.Packed.{bitsFrom, bytesFrom, packed}
 use Rattle.pbm.specs.Pbm.{lastDigits, header, topFirst, file}
 use Rattle.drawing.specs.Film.{tableUpTo, tableOf, pathOf, rowOf, film}
 use Rattle.drawing.specs.Theorems.{anyBelow, Drawable}

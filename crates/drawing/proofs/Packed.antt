@@ -19,11 +19,12 @@ use Rattle.aperture.specs.declared.Place.{Place}
 use Rattle.aperture.specs.declared.Looked.the-variants as looking
 use Rattle.aperture.specs.Table.{looked}
 use Rattle.stroke.specs.Runs.{blackAt}
-use Rattle.row.specs.declared.Verdict.the-variants.{Passed}
-use Rattle.row.specs.Checks.{verdict}
-use Rattle.row.specs.Answer.{Result, pathPoints, bitsFrom, bytesFrom, packed, packedLength, packedResult, packResult}
-use Rattle.row.specs.Calls.{packedCall}
-use Rattle.row.specs.Theorems.{Holds}
+use Rattle.checks.specs.declared.Verdict.the-variants.{Passed}
+use Rattle.checks.specs.Checks.{verdict}
+use Rattle.checks.specs.Answer.{Result}
+use Rattle.stroke.specs.Sweep.{pathPoints}
+use Rattle.packed.specs.Packed.{bitsFrom, bytesFrom, packed, packedLength, packedResult, packResult, packedCall}
+use Rattle.aperture.specs.Reachable.{Holds}
 use Rattle.drawing.specs.Film.{Drawing, laidOver, added, pathOf, rowUpTo}
 use Rattle.drawing.specs.Theorems.{anyBelow, Drawable, FilmRow}
 

@@ -9,7 +9,7 @@ use lib.Dec.{leb}
 use lib.ListN.{length, take, drop, replicate, length-append, length-replicate}
 use borrow.Author.Tests.{leb-true, le-leb, lt-leb}
 use Rattle.integers.proofs.Tests.{false-and, and-both}
-use Rattle.row.specs.Answer.{packedLength}
+use Rattle.packed.specs.Packed.{packedLength}
 use Rattle.pbm.specs.Pbm.{isSize, decimal, header, topFirst, Put, headerPut}
 use Rattle.pbm.proofs.Decimal.{size-few}
 use Rattle.pbm.proofs.Pieces.{header-length, nothing}

@@ -11,9 +11,11 @@ use Rattle.pen.specs.Polygon.{upAndBack, onceEach, pen}
 use Rattle.pen.specs.Laws.{chain, edges}
 use Rattle.stroke.specs.Sides.{furthest, sides}
 use Rattle.stroke.specs.Black.{kept}
-use Rattle.stroke.specs.Extent.{inRange, narrowed, extent}
+use Rattle.stroke.specs.Extent.{narrowed, extent}
+use Rattle.checks.specs.Checks.{inRange}
 use Rattle.stroke.specs.Runs.{blackAt}
-use Rattle.row.specs.Answer.{pathPoints, bitsFrom, bytesFrom, packed}
+use Rattle.stroke.specs.Sweep.{pathPoints}
+use Rattle.packed.specs.Packed.{bitsFrom, bytesFrom, packed}
 use Rattle.pbm.specs.Pbm.{lastDigits, topFirst, file}
 use Rattle.drawing.specs.Film.{Drawing, tableOf, film}
 

@@ -11,8 +11,7 @@ use Rattle.setting.specs.declared.Setting.{Setting}
 use Rattle.setting.specs.Refusal.{Refusal, number, raster, room}
 use Rattle.aperture.specs.declared.Table.{Table}
 use Rattle.aperture.specs.Table.{empty, defined}
-use Rattle.row.specs.Answer.{packedLength}
-use Rattle.row.specs.Calls.{packedCall}
+use Rattle.packed.specs.Packed.{packedLength, packedCall}
 use Rattle.pbm.specs.Pbm.{isSize, file, started}
 use Rattle.drawing.specs.declared.Written.{Written}
 

@@ -8,10 +8,11 @@ use lib.IntN.{pos}
 use Rattle.setting.specs.declared.Setting.{Setting}
 use Rattle.pen.specs.Polygon.{pen}
 use Rattle.stroke.specs.Runs.{blackAt}
-use Rattle.row.specs.declared.Verdict.the-variants.{Passed}
-use Rattle.row.specs.Checks.{verdict}
-use Rattle.row.specs.Answer.{pathPoints, packed, packedLength}
-use Rattle.row.specs.Theorems.{Holds}
+use Rattle.checks.specs.declared.Verdict.the-variants.{Passed}
+use Rattle.checks.specs.Checks.{verdict}
+use Rattle.stroke.specs.Sweep.{pathPoints}
+use Rattle.packed.specs.Packed.{packed, packedLength}
+use Rattle.aperture.specs.Reachable.{Holds}
 use Rattle.drawing.specs.Film.{Drawing, pathOf, rowOf}
 
 -- every stroke's aperture is in use, and its path passes the checks

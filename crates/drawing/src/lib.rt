@@ -6,7 +6,7 @@ ghost use mathlib.Core.Path.{_≡_};
 ghost use mathlib.Core.Bool.{true, cond};
 ghost use Prim.Native.Nat.{_+_, _*_, _≤_, _<_, min};
 ghost use lib.ListN.{length, getD, replicate};
-ghost use Rattle.row.specs.Answer.{packedLength};
+ghost use Rattle.packed.specs.Packed.{packedLength};
 ghost use Rattle.pbm.specs.Pbm.{isSize, header, topFirst};
 ghost use Rattle.drawing.specs.Film.{tableOf, pathOf, laidOver, added, rowOf, film, isRaster, filmPut};
 
@@ -73,7 +73,7 @@ fn add_stroke(
     requires { ⌜ now part ≡ replicate (length (now bytes)) 0 ⌝ }
     ensures { λ _. ⌜ now (part .exit) ≡ replicate (length (now (bytes .entry))) 0 ⌝ ∗ ⌜ now (bytes .exit) ≡ added table number (now (path .entry)) columns rows row (now (bytes .entry)) ⌝ }
 {
-    row::packed_row(table, number, path, columns, rows, row, part);
+    packed::packed_row(table, number, path, columns, rows, row, part);
     lay_over(bytes, part);
     clear(part);
 }

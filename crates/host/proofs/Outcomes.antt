@@ -11,12 +11,15 @@ use lib.ListN.{length, take, drop}
 use Rattle.pen.specs.Polygon.{Pt}
 use Rattle.stroke.specs.Runs.{Run, rowRuns, blackAt}
 use Rattle.stroke.proofs.Runs.{runs-few}
-use Rattle.row.specs.declared.Answer.{Answer}
-use Rattle.row.specs.declared.Verdict.{Verdict}
-use Rattle.row.specs.declared.Verdict.the-variants.{Passed, Refused}
-use Rattle.row.specs.Checks.{verdict}
-use Rattle.row.specs.Answer.{Result, pathPoints, listed, runsResult, rowResult, packed, packedLength, packedResult, packResult}
-use Rattle.row.proofs.Verdicts.{verdict-passed}
+use Rattle.checks.specs.declared.Answer.{Answer}
+use Rattle.checks.specs.declared.Verdict.{Verdict}
+use Rattle.checks.specs.declared.Verdict.the-variants.{Passed, Refused}
+use Rattle.checks.specs.Checks.{verdict}
+use Rattle.checks.specs.Answer.{Result}
+use Rattle.stroke.specs.Sweep.{pathPoints}
+use Rattle.row.specs.Answer.{listed, runsResult, rowResult}
+use Rattle.packed.specs.Packed.{packed, packedLength, packedResult, packResult}
+use Rattle.checks.proofs.Verdicts.{verdict-passed}
 use Rattle.host.specs.Host.{Outcome, coded, runBytes, runsOutcome, rowOutcome, packedOutcome, packedRowOutcome}
 use Rattle.host.specs.Words.{wordBytes}
 use Rattle.host.proofs.Verdicts.{refusal-small}

@@ -13,7 +13,7 @@ use Rattle.pen.specs.Answer.{penCorners, built}
 use Rattle.pen.proofs.Laid.{corners-back}
 use Rattle.pen.proofs.Answers.{pen-built, none-built}
 use Rattle.stroke.specs.Runs.{rowRuns, blackAt}
-use Rattle.row.specs.Answer.{pathPoints}
+use Rattle.stroke.specs.Sweep.{pathPoints}
 use Rattle.host.specs.Host.{entriesOf, bytesVerdict, refused, rowOutcome, hostRow, packedRowOutcome, hostPackedRow}
 
 -- what building the pen tells

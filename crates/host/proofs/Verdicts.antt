@@ -10,10 +10,9 @@ use lib.IntN.{ℤ}
 use lib.ListN.{length}
 use Rattle.integers.proofs.Tests.{and-both, and-false}
 use Rattle.setting.specs.Refusal.{Refusal, number, path, raster, row, coordinate}
-use Rattle.stroke.specs.Extent.{inRange}
-use Rattle.row.specs.declared.Verdict.{Verdict}
-use Rattle.row.specs.declared.Verdict.the-variants.{Passed, Refused}
-use Rattle.row.specs.Checks.{refuse, unless, isSize, pathVerdict, rasterVerdict, rowVerdict, coordinateFrom, coordinateVerdict, _then_, verdict}
+use Rattle.checks.specs.Checks.{inRange, refuse, unless, isSize, pathVerdict, rasterVerdict, rowVerdict, coordinateFrom, coordinateVerdict, _then_, verdict}
+use Rattle.checks.specs.declared.Verdict.{Verdict}
+use Rattle.checks.specs.declared.Verdict.the-variants.{Passed, Refused}
 use Rattle.host.specs.Host.{entriesOf, bytesVerdict}
 use Rattle.host.proofs.Entries.{entries-length}
 

@@ -11,10 +11,11 @@ use Rattle.setting.specs.Refusal.{Refusal, number, setting, path, room}
 use Rattle.setting.specs.Setting.{taken}
 use Rattle.pen.specs.Polygon.{Pt, pen}
 use Rattle.stroke.specs.Runs.{Run, blackAt, rowRuns}
-use Rattle.row.specs.declared.Verdict.{Verdict}
-use Rattle.row.specs.declared.Verdict.the-variants.{Passed, Refused}
-use Rattle.row.specs.Checks.{unless, _then_, verdict}
-use Rattle.row.specs.Answer.{pathPoints, packed, packedLength}
+use Rattle.checks.specs.declared.Verdict.{Verdict}
+use Rattle.checks.specs.declared.Verdict.the-variants.{Passed, Refused}
+use Rattle.checks.specs.Checks.{unless, _then_, verdict}
+use Rattle.stroke.specs.Sweep.{pathPoints}
+use Rattle.packed.specs.Packed.{packed, packedLength}
 
 -- "the path is bytes, four to a coordinate, two's complement, lowest byte first"
 abbrev pub unsigned : ℕ → ℕ → ℕ → ℕ → ℕ

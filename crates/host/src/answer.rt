@@ -1,8 +1,8 @@
 // What a row call answers for a pen and a path of bytes.
 use crate::bytes::decode;
 use crate::bytes::encode;
+use checks::Answer;
 use pen::Pen;
-use row::Answer;
 ghost use mathlib.Core.Path.{_≡_};
 ghost use Prim.Native.Nat.{_*_, _%_, _≤_, _<_};
 ghost use mathlib.Core.Bool.{_&&_};
@@ -11,8 +11,8 @@ ghost use lib.IntN.{pos};
 ghost use lib.ListN.{length};
 ghost use Rattle.pen.specs.Answer.{penCorners};
 ghost use Rattle.stroke.specs.Runs.{rowRuns, blackAt};
-ghost use Rattle.row.specs.Checks.{verdict};
-ghost use Rattle.row.specs.Answer.{pathPoints};
+ghost use Rattle.checks.specs.Checks.{verdict};
+ghost use Rattle.stroke.specs.Sweep.{pathPoints};
 ghost use Rattle.host.specs.Host.{entriesOf, coded, bytesVerdict, rowOutcome, packedRowOutcome};
 
 // The three numbers in one.
@@ -89,7 +89,7 @@ fn entries_packed(
 ) -> u64
     ensures { λ r. ⌜ record { answer = r; bytes = now (bytes .exit) } ≡ packedRowOutcome (verdict (now (path .entry)) columns rows row) (λ x. blackAt (penCorners pen) (pathPoints (now (path .entry))) (pos row) (pos x)) columns (now (bytes .entry)) ⌝ }
 {
-    let a = row::packed_for(pen, path, columns, rows, row, bytes);
+    let a = packed::packed_for(pen, path, columns, rows, row, bytes);
     code(a)
 }
 

@@ -12,13 +12,15 @@ use Rattle.stroke.proofs.Runs.{runs-few}
 use Rattle.aperture.specs.declared.Table.{Table}
 use Rattle.aperture.specs.declared.Looked.{Looked}
 use Rattle.aperture.specs.declared.Looked.the-variants as looked·
-use Rattle.aperture.specs.Table.{looked}
-use Rattle.row.specs.declared.Verdict.{Verdict}
-use Rattle.row.specs.declared.Verdict.the-variants as verdict·
-use Rattle.row.specs.Checks.{verdict}
-use Rattle.row.specs.Answer.{Result, refusal, pathPoints, runsResult, rowResult}
-use Rattle.row.specs.Calls.{cornersAt, rowCall}
-use Rattle.row.proofs.Verdicts.{verdict-passed}
+use Rattle.aperture.specs.Table.{looked, cornersAt}
+use Rattle.checks.specs.declared.Verdict.{Verdict}
+use Rattle.checks.specs.declared.Verdict.the-variants as verdict·
+use Rattle.checks.specs.Checks.{verdict}
+use Rattle.checks.specs.Answer.{Result, refusal}
+use Rattle.stroke.specs.Sweep.{pathPoints}
+use Rattle.row.specs.Answer.{runsResult, rowResult}
+use Rattle.row.specs.Calls.{rowCall}
+use Rattle.checks.proofs.Verdicts.{verdict-passed}
 
 pub record Refuses (f : List ℕ → Result) : Type 0 where
   pub number : ℕ
@@ -40,7 +42,7 @@ module _ (t : Table) (n : ℕ) (path : List ℤ) (columns rows j : ℕ) where
   -- no pen is held
   pub no-pen : looked t n ≡ looked·.Refused → (l : List ℕ) → rowCall t n path columns rows j l ≡ refusal 6 0 l
   unfolding rowCall
-  no-pen e l = rw (rowCall, e)
+  no-pen e l = rw (rowCall, e, e)
 
   -- a check refuses
   pub unchecked : (i : ℕ) → looked t n ≡ looked·.At i → (k place : ℕ) → verdict path columns rows j ≡ verdict·.Refused k place → (l : List ℕ) → rowCall t n path columns rows j l ≡ refusal k place l

@@ -12,8 +12,8 @@ use lib.Seq.{length-take-le}
 use lib.IntN.{ℤ}
 use Rattle.stroke.specs.Runs as stroke
 use Rattle.aperture.specs.declared.Table.{Table}
-use Rattle.row.specs.declared.Answer.{Answer}
-use Rattle.row.specs.Answer as plain
+use Rattle.checks.specs.declared.Answer.{Answer}
+use Rattle.checks.specs.Answer as plain
 use Rattle.row.specs.Answer.{flat, listed, runsResult}
 use Rattle.row.specs.Calls.{rowCall}
 use Rattle.records.specs.declared.Run.{Run}

@@ -8,8 +8,8 @@ use borrow.Author.Tests.{le-leb, lt-leb, leb-true}
 use lib.Dec.{leb}
 use lib.ListN.{length, take, drop}
 use lib.Seq.{take-at, length-take-le}
-use Rattle.row.specs.declared.Answer.{Answer}
-use Rattle.row.specs.Answer.{Result}
+use Rattle.checks.specs.declared.Answer.{Answer}
+use Rattle.checks.specs.Answer.{Result}
 use Rattle.records.specs.Records.{entries}
 
 pub entries-few : (room : ℕ) → room ≤ 8192 → 2 * room ≡ entries room

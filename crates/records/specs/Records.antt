@@ -6,8 +6,8 @@ use lib.Dec.{leb}
 use lib.ListN.{take, drop}
 use lib.IntN.{ℤ}
 use Rattle.aperture.specs.declared.Table.{Table}
-use Rattle.row.specs.declared.Answer.{Answer}
-use Rattle.row.specs.Answer as plain
+use Rattle.checks.specs.declared.Answer.{Answer}
+use Rattle.checks.specs.Answer as plain
 use Rattle.row.specs.Calls.{rowCall}
 use Rattle.records.specs.declared.Run.{Run}
 

@@ -12,12 +12,12 @@ use Rattle.stroke.specs.Runs as stroke
 use Rattle.stroke.specs.Runs.{rowRuns}
 use Rattle.aperture.specs.declared.Table.{Table}
 use Rattle.aperture.specs.declared.Looked.the-variants as looked·
-use Rattle.aperture.specs.Table.{looked}
-use Rattle.row.specs.declared.Answer.{Answer}
-use Rattle.row.specs.declared.Verdict.the-variants as verdict·
-use Rattle.row.specs.Checks.{verdict}
-use Rattle.row.specs.Answer.{pathPoints}
-use Rattle.row.specs.Calls.{cornersAt, rowCall}
+use Rattle.aperture.specs.Table.{looked, cornersAt}
+use Rattle.checks.specs.declared.Answer.{Answer}
+use Rattle.checks.specs.declared.Verdict.the-variants as verdict·
+use Rattle.checks.specs.Checks.{verdict}
+use Rattle.stroke.specs.Sweep.{pathPoints}
+use Rattle.row.specs.Calls.{rowCall}
 use Rattle.records.specs.declared.Run.{Run}
 use Rattle.records.specs.Records.{Result, numbers, recordsCall}
 

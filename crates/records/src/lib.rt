@@ -4,7 +4,7 @@
 // A layer over the plain answer: the runs are drawn into a list of numbers, left and right
 // alternating, and written out of it as records. Nothing is checked or drawn here.
 use aperture::Table;
-use row::Answer;
+use checks::Answer;
 ghost use mathlib.Core.Path.{_≡_};
 ghost use Prim.Native.Nat.{_*_, _≤_};
 ghost use lib.ListN.{length, take};

@@ -10,11 +10,11 @@ use lib.ListN.{length, getD}
 use Rattle.integers.proofs.Tests.{clash}
 use Rattle.stroke.specs.Runs.{runsOf}
 use Rattle.stroke.proofs.Runs.{runs-few}
-use Rattle.row.specs.Cuts.{Bounded, reachTo, blackFar}
+use Rattle.cuts.specs.Cuts.{Bounded, reachTo, blackFar}
 use Rattle.row.specs.declared.runs.Pass.{Pass}
 use Rattle.row.specs.Answer.{listed}
 use Rattle.row.proofs.Grown.{before, Grown, runs-grown, grown-length, grown-some}
-use Rattle.row.proofs.Bounds.{reach-first, black-first, runs-first}
+use Rattle.row.proofs.FarRuns.{reach-first, black-first, runs-first}
 use Rattle.row.proofs.Listed.{stored, listed-grown}
 
 -- the pass before column i

@@ -1,5 +1,5 @@
 -- Document 01, "Cases": all that are marked *, pens and rows, as the definitions give them. One table, and one statement over it.
-use Prim.Native.Nat.{ℕ, zero, suc}
+use Prim.Native.Nat.{ℕ, suc}
 use mathlib.Core.Path.{_≡_, refl}
 use mathlib.Core.Bool.{Bool, true, false, _&&_}
 use mathlib.Core.List.{List, [], _∷_, map}
@@ -14,11 +14,12 @@ use Rattle.pen.specs.Polygon.{Pt, pt, same, upward, upAndBack, onceEach, pen}
 use Rattle.pen.specs.Laws.{chain, edges}
 use Rattle.stroke.specs.Sides.{furthest, sides}
 use Rattle.stroke.specs.Black.{kept}
-use Rattle.stroke.specs.Extent.{inRange, narrowed, extent}
+use Rattle.stroke.specs.Extent.{narrowed, extent}
+use Rattle.checks.specs.Checks.{inRange, coordinateFrom}
 use Rattle.stroke.specs.Runs.{Run, runsFrom, runsOf}
-use Rattle.row.specs.declared.Answer.{Answer}
-use Rattle.row.specs.Checks.{coordinateFrom}
-use Rattle.row.specs.Answer.{Result, pathPoints, listed, success, rowResult}
+use Rattle.checks.specs.Answer.{Result, success}
+use Rattle.stroke.specs.Sweep.{pathPoints}
+use Rattle.row.specs.Answer.{listed, rowResult}
 
 pub data Case : Type 0 where
   -- the setting is taken, and these are its pen's lower right corners from the bottom

@@ -1,7 +1,5 @@
 -- In the order of document 01; then what is proved, and the cases that it marks.
-pub mod Checks
 pub mod Answer
 pub mod Calls
-pub mod Cuts
 pub mod Theorems
 pub mod Cases

@@ -1,10 +1,10 @@
 -- Demands 2 and 3 over the answers of row calls. They speak of any answers that satisfy the calls' own promise, so they are facts about the code.
 -- Each claim is a type; proofs/Theorems.antt proves it under the same name.
-use Prim.Native.Nat.{ℕ, zero, suc, _+_, _*_, _/_, _%_, _-_, _^_, _<_}
+use Prim.Native.Nat.{ℕ, zero, suc, _+_, _/_, _-_, _<_}
 use mathlib.Core.Path.{_≡_}
-use mathlib.Core.Logic.{_⊎_, _↔_}
+use mathlib.Core.Logic.{_⊎_}
 use mathlib.Core.List.{List, [], _∷_}
-use lib.ListN.{length, getD, drop}
+use lib.ListN.{length}
 use lib.IntN.{ℤ, pos}
 use Rattle.integers.specs.Orders.{_≼_, _≺_}
 use Rattle.integers.specs.Count.{Number}
@@ -12,23 +12,14 @@ use Rattle.setting.specs.declared.Setting.{Setting}
 use Rattle.setting.specs.Setting.{Taken, Dx, Dy}
 use Rattle.pen.specs.Polygon.{pen}
 use Rattle.aperture.specs.declared.Table.{Table}
-use Rattle.aperture.specs.Table.{placeOf, holding, isNumber}
-use Rattle.aperture.specs.Reachable.{Reachable}
-use Rattle.stroke.specs.Sweep.{Seg, centre}
+use Rattle.aperture.specs.Reachable.{Holds}
+use Rattle.stroke.specs.Sweep.{Seg, centre, pathPoints}
 use Rattle.stroke.specs.Black.{BlackPath}
 use Rattle.stroke.specs.Runs.{Run, Longest}
-use Rattle.stroke.specs.Weight.{Pixel, BlackPixel, Direction, InsideRow, InsideColumn, InRows, offset}
-use Rattle.row.specs.declared.Answer.{Answer}
-use Rattle.row.specs.Answer.{Result, pathPoints, listed, packedLength}
-use Rattle.row.specs.Calls.{rowCall, packedCall}
-use mathlib.Core.Bool.{true}
-
--- aperture n of the table, made by the calls, holds the setting
-pub record Holds (t : Table) (n : ℕ) (σ : Setting) : Type 0 where
-  pub reachable : Reachable t
-  pub number : isNumber n ≡ true
-  pub taken : Taken σ
-  pub place : placeOf t n ≡ holding σ
+use Rattle.stroke.specs.Weight.{BlackPixel, Direction, InsideRow, InsideColumn, InRows, offset}
+use Rattle.checks.specs.declared.Answer.{Answer}
+use Rattle.row.specs.Answer.{listed}
+use Rattle.row.specs.Calls.{rowCall}
 
 -- a row call that succeeded: what it was asked for, and what it answered and left in the list
 pub record Answered (t : Table) (n : ℕ) (path : List ℤ) (columns rows j : ℕ) (before : List ℕ) (answer : Answer) (after : List ℕ) : Type 0 where
@@ -47,19 +38,6 @@ abbrev pub RowDraws : Type 0
 RowDraws =
     (t : Table) (n : ℕ) (σ : Setting) → Holds t n σ → (path : List ℤ) (columns rows j : ℕ) (before : List ℕ) (answer : Answer) (after : List ℕ) →
     Answered t n path columns rows j before answer after → Drawn σ path columns j before answer after
-
--- Demand 2 for the packed row: an answer 0 fills ceil(columns/8) bytes; bit 7 - b of byte k is 1 exactly when column 8k + b is one of the raster's and
--- black by existence, for the aperture's pen; the rest of the buffer is left
-pub record DrawnPacked (σ : Setting) (path : List ℤ) (columns j : ℕ) (before : List ℕ) (answer : Answer) (after : List ℕ) : Type 0 where
-  pub count : answer .count ≡ packedLength columns
-  pub bits : (k b : ℕ) → k < packedLength columns → b < 8 →
-      (getD after k 0 / 2 ^ (7 - b) % 2 ≡ 1) ↔ ((8 * k + b < columns) × BlackPath (pen σ) (pathPoints path) (centre (pos (8 * k + b)) (pos j)))
-  pub rest : drop (packedLength columns) after ≡ drop (packedLength columns) before
-
-abbrev pub PackedDraws : Type 0
-PackedDraws =
-    (t : Table) (n : ℕ) (σ : Setting) → Holds t n σ → (path : List ℤ) (columns rows j : ℕ) (before : List ℕ) (answer : Answer) (after : List ℕ) →
-    record { answer = answer; list = after } ≡ packedCall t n path columns rows j before → answer .refusal ≡ 0 → DrawnPacked σ path columns j before answer after
 
 -- how many pixels the first n records of a list hold: "A run holds right - left + 1 pixels"
 abbrev pub holdsIn : ℕ → List ℕ → ℕ

@@ -6,7 +6,7 @@
 // columns passed: a black column starts a new run or moves the right end of the last one. Counting
 // is the same pass without the list, so that a caller knows whether there is room before anything
 // is written.
-use crate::far::reach_at;
+use cuts::further;
 ghost use mathlib.Core.Path.{_≡_};
 ghost use mathlib.Core.Bool.{true, false, not, cond, _&&_};
 ghost use mathlib.Core.List.{[], _∷_};
@@ -15,7 +15,7 @@ ghost use lib.Dec.{ltb};
 ghost use lib.ListN.{length, getD, set};
 ghost use Rattle.stroke.specs.Runs.{runsOf};
 ghost use Rattle.row.specs.Answer.{listed};
-ghost use Rattle.row.specs.Cuts.{Bounded, blackFar};
+ghost use Rattle.cuts.specs.Cuts.{Bounded, blackFar};
 
 // What the pass knows after a column: how far the cuts so far go, whether the column is black, and
 // how many runs there are so far.
@@ -59,7 +59,7 @@ fn next(far: &[u16], i: usize, p: Pass) -> Pass
     requires { ⌜ i < length (now far) ⌝ ∗ ⌜ p .count ≤ 16384 ⌝ }
     ensures { λ r. ⌜ r .reach ≡ max (p .reach) (getD (now (far .entry)) i 0) ⌝ ∗ ⌜ r .black ≡ ltb i (r .reach) ⌝ ∗ ⌜ r .count ≡ cond (r .black && not (p .black)) (suc (p .count)) (p .count) ⌝ }
 {
-    let reach = reach_at(far, i, p.reach);
+    let reach = further(p.reach, far[i]);
     let black = reaches(reach, i);
     let count = counted(p.count, p.black, black);
     Pass {

@@ -14,7 +14,8 @@ use Rattle.stroke.specs.declared.Extent.the-variants as extent·
 use Rattle.stroke.specs.declared.side.Ends.{Ends}
 use Rattle.stroke.specs.Sweep.{Seg}
 use Rattle.stroke.specs.Sides.{sides}
-use Rattle.stroke.specs.Extent.{narrowed, spanOf, reached, extent, inRange}
+use Rattle.stroke.specs.Extent.{narrowed, spanOf, reached, extent}
+use Rattle.checks.specs.Checks.{inRange}
 use Rattle.stroke.specs.Answer.{isRow, seg, allowed, answered, extentOf}
 use Rattle.stroke.specs.Held.{start, Near, ends}
 

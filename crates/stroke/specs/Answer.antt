@@ -8,7 +8,8 @@ use Rattle.pen.specs.Polygon.{Pt, pt}
 use Rattle.stroke.specs.declared.Extent.{Extent}
 use Rattle.stroke.specs.declared.Extent.the-variants as extent·
 use Rattle.stroke.specs.Sweep.{Seg}
-use Rattle.stroke.specs.Extent.{Span, none, columns, extent, inRange}
+use Rattle.stroke.specs.Extent.{Span, none, columns, extent}
+use Rattle.checks.specs.Checks.{inRange}
 
 -- "columns and rows each 1 to 16,384. Rows .. count from 0"
 abbrev pub isRow : ℕ → Bool

@@ -1,14 +1,13 @@
 -- Definitions that compute: black as a test, and the extent of a segment in a row, its first and last black column, signed and uncut, or none.
 -- `black-test` and `extent-black` (Theorems) say that they are black by existence, for every pen with the laws.
-use mathlib.Core.Bool.{Bool, true, false, cond, _&&_}
+use mathlib.Core.Bool.{Bool, true, cond, _&&_}
 use mathlib.Core.List.{List, [], _∷_}
-use Prim.Native.Nat.{ℕ}
-use lib.IntN.{ℤ, pos, negsuc, negℤ, _+ℤ_, _-ℤ_, _*ℤ_}
+use lib.IntN.{ℤ, pos, negℤ, _+ℤ_, _-ℤ_, _*ℤ_}
 use lib.Signed.{leZ, ltZ}
 use Rattle.integers.specs.Orders.{_≼_}
 use Rattle.integers.specs.Compare.{minZ, maxZ}
 use Rattle.integers.specs.Floor.{floorDiv}
-use Rattle.pen.specs.Polygon.{Pt, pt}
+use Rattle.pen.specs.Polygon.{Pt}
 use Rattle.pen.specs.Laws.{Side, dot, reach}
 use Rattle.stroke.specs.Sweep.{Seg, centre}
 use Rattle.stroke.specs.Sides.{sides}
@@ -86,7 +85,3 @@ reached cs g j =
 
 unfoldable pub extent : List Pt → Seg → ℤ → Span
 extent cs g j = cond (reached cs g j) (spanOf (narrowed j (sides cs g) (record { some = true; least = free; most = free }))) none
-
--- "each coordinate from -262,144 to 262,144"
-unfoldable pub inRange : ℤ → Bool
-inRange z = leZ (negsuc 262143) z && leZ z (pos 262144)

@@ -11,6 +11,12 @@ pub record Seg : Type 0 where
   pub from : Pt
   pub to : Pt
 
+-- "Path: signed 32-bit numbers x, y, x, y, ..."
+unfoldable pub pathPoints : List ℤ → List Pt
+pathPoints [] = []
+pathPoints (x ∷ []) = []
+pathPoints (x ∷ y ∷ l) = pt x y ∷ pathPoints l
+
 -- "Pixel (i, j) has its centre at column i, row j .. so that centre is at (16i, 16j)"
 abbrev pub centre : ℤ → ℤ → Pt
 centre i j = pt (pos 16 *ℤ i) (pos 16 *ℤ j)

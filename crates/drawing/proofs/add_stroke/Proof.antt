@@ -4,8 +4,8 @@ use mathlib.Core.Path.{ap, _∙_}
 use mathlib.Core.List.{List}
 use lib.ListN.{length, replicate, length-replicate}
 use denote.Ref.{now}
-use Rattle.row.specs.Answer.{Result}
-use Rattle.row.specs.Calls.{packedCall}
+use Rattle.checks.specs.Answer.{Result}
+use Rattle.packed.specs.Packed.{packedCall}
 use Rattle.drawing.specs.Film.{laidOver}
 use borrow.Author.Needs.{needs}
 use Rattle.drawing.proofs.add_stroke.Statement.{statement}

@@ -6,7 +6,7 @@ use mathlib.Core.List.{List, _++_}
 use lib.ListN.{length, take, replicate, length-take, length-drop}
 use lib.Seq.{take-at}
 use denote.Ref.{now}
-use Rattle.row.specs.Answer.{packedLength}
+use Rattle.packed.specs.Packed.{packedLength}
 use Rattle.pbm.specs.Pbm.{header, topFirst, started, Put}
 use Rattle.drawing.specs.Film.{Drawing, rowOf}
 use Rattle.drawing.proofs.Rows.{put-whole, replaced}

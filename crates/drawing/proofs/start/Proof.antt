@@ -3,7 +3,6 @@ use mathlib.Core.Path.{sym}
 use lib.ListN.{List·getD-eq-default}
 use denote.Ref.{now}
 use borrow.Author.Needs.{needs}
-use borrow.Author.Needs.{needs}
 use Rattle.drawing.proofs.start.Statement.{statement}
 use Rattle.drawing.proofs.start.Tie as tie
 

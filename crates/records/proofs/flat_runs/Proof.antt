@@ -1,7 +1,7 @@
 -- The plain call is lent the front of the list, and what it leaves there stays there.
 use Rattle.records.proofs.Room.{entries-in, at-front}
 use Rattle.records.specs.Records.{entries}
-use Rattle.row.specs.Answer.{Result}
+use Rattle.checks.specs.Answer.{Result}
 use Rattle.row.specs.Calls.{rowCall}
 use mathlib.Core.Path.{_≡_, sym, subst, _∙_}
 use mathlib.Core.List.{List, _++_}

@@ -50,10 +50,10 @@ use denote.Exit.{yes}
 use Rattle.aperture.specs.declared.Table.{Table}
 use Rattle.aperture.proofs.Table as Tb
 use Rattle.aperture.proofs.Table.Laws as Tb′
-use Rattle.row.specs.declared.Answer.{Answer}
+use Rattle.checks.specs.declared.Answer.{Answer}
 use Rattle.row.specs.Calls.{rowCall}
-use Rattle.row.proofs.Answer as Ans
-use Rattle.row.proofs.Answer.Laws as Ans′
+use Rattle.checks.proofs.Answer as Ans
+use Rattle.checks.proofs.Answer.Laws as Ans′
 use Rattle.records.specs.declared.Run.{Run}
 use Rattle.records.specs.Records.{entries, written, recordsCall}
 use Rattle.records.proofs.Plain.{Fills, fills}

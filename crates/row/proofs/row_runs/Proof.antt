@@ -1,49 +1,42 @@
 -- Where no pen is held the call refuses; otherwise the row is that of the place's pen.
-use mathlib.Core.Path.{sym, _∙_}
-use native.Mathlib.Omega.{arith}
+use Rattle.row.proofs.Calls.{call-refused, call-at}
 use Rattle.aperture.proofs.Theorems.{looked-small}
-use Rattle.row.proofs.Calls.{refused-by, call-refused, call-at}
+use native.Mathlib.Omega.{arith}
+use mathlib.Core.Path.{sym, _∙_}
 use borrow.Author.Needs.{needs}
 use Rattle.row.proofs.row_runs.Statement.{statement}
 use Rattle.row.proofs.row_runs.Tie as tie
+use Rattle.aperture.proofs.look_up.Reads as look-up-reads
+use Rattle.checks.proofs.report.Reads as report-reads
+use Rattle.row.proofs.runs_for.Reads as runs-for-reads
 
--- src/lib.rt:52:25
 look-up-requires : tie.Need-look-up-requires
 look-up-requires c κs = search needs
 
--- src/lib.rt:52:20
 enum-known-i : tie.Need-enum-known-i
 enum-known-i c = search needs
 
--- src/lib.rt:53:9
 enum-told : tie.Need-enum-told
 enum-told c = search needs
 
--- src/lib.rt:53:9
-refused-requires : tie.Need-refused-requires
-refused-requires c κs = search needs
+report-requires : tie.Need-report-requires
+report-requires c κs = search needs
 
--- src/lib.rt:53:9
 returns : tie.Need-returns
-returns c = let a = c .before .before .before .before .before .args in refused-by (a .runs .now) (c .refused .ensures) ∙ call-refused (a .t1) (a .number) (a .path .now) (a .columns) (a .rows) (a .row) (a .runs .now) (sym (c .before .before .before .look-up .ensures) ∙ c .before .enum-told .given .1)
+returns c = let a = c .before .before .before .before .before .args in call-refused (a .t1) (a .number) (a .path .now) (a .columns) (a .rows) (a .row) (a .runs .now) (sym (c .before .before .before .look-up .ensures) ∙ c .before .enum-told .given .1) (c .report .ensures)
 
--- src/lib.rt:55:17
 mul-place : tie.Need-mul-place
 mul-place c = let b = looked-small (c .before .before .before .before .before .args .t1) (c .before .before .before .before .before .args .number) (c .before .i .given .0 .0) (sym (c .before .before .before .look-up .ensures) ∙ c .before .i .given .1) in record { fits = omega (arith, b) }
 
--- src/lib.rt:55:17
 element-copy-out-place : tie.Need-element-copy-out-place
 element-copy-out-place c = looked-small (c .before .before .before .before .before .args .t1) (c .before .before .before .before .before .args .number) (c .before .i .given .0 .0) (sym (c .before .before .before .look-up .ensures) ∙ c .before .i .given .1)
 
--- src/lib.rt:56:5
 runs-for-requires : tie.Need-runs-for-requires
 runs-for-requires c κs = search needs
 
--- src/lib.rt:49:1
 same-length : tie.Need-same-length
 same-length c = search needs
 
--- src/lib.rt:49:1
 returns-2 : tie.Need-returns-2
 returns-2 c = let a = c .before .before .before .before .before .before .before .before .before .before .args in c .before .before .runs-for .ensures ∙ call-at (a .t1) (a .number) (a .path .now) (a .columns) (a .rows) (a .row) (a .runs .now) (c .before .before .before .before .before .before .i .given .0 .0) (sym (c .before .before .before .before .before .before .before .before .look-up .ensures) ∙ c .before .before .before .before .before .before .i .given .1)
 
@@ -54,7 +47,7 @@ row-runs-spec =
     look-up-requires
     enum-known-i
     enum-told
-    refused-requires
+    report-requires
     returns
     mul-place
     element-copy-out-place

@@ -5,7 +5,7 @@ use lib.IntN.{ℤ}
 use mir.Syntax.{w32}
 use Rattle.integers.proofs.Tests.{true-and, false-and}
 use Rattle.integers.proofs.Machine.{par}
-use Rattle.stroke.specs.Extent.{inRange}
+use Rattle.checks.specs.Checks.{inRange}
 use borrow.Author.Needs.{needs}
 use Rattle.stroke.proofs.allowed.Statement.{statement}
 use Rattle.stroke.proofs.allowed.Tie as tie

@@ -3,7 +3,7 @@ use mathlib.Core.Path.{sym, ap, _∙_}
 use mir.Syntax.{w32}
 use Rattle.integers.proofs.Tests.{true-and, false-and}
 use Rattle.integers.proofs.Machine.{par}
-use Rattle.stroke.specs.Extent.{inRange}
+use Rattle.checks.specs.Checks.{inRange}
 use borrow.Author.Needs.{needs}
 use Rattle.stroke.proofs.both.Statement.{statement}
 use Rattle.stroke.proofs.both.Tie as tie

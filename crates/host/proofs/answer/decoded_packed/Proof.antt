@@ -1,13 +1,12 @@
 -- The array's front holds the path's coordinates.
 use Rattle.host.proofs.Entries.{entries-front, entries-length}
-use Rattle.row.specs.Answer.{pathPoints}
-use Rattle.row.specs.Checks.{verdict}
+use Rattle.stroke.specs.Sweep.{pathPoints}
+use Rattle.checks.specs.Checks.{verdict}
 use Rattle.host.specs.Host.{packedRowOutcome}
 use Rattle.stroke.specs.Runs.{blackAt}
-use lib.IntN.{pos}
+use lib.IntN.{pos, ℤ}
 use Rattle.pen.specs.Answer.{penCorners}
 use lib.ListN.{length}
-use lib.IntN.{ℤ}
 use mathlib.Core.List.{List}
 use mathlib.Core.Path.{sym, ap, _∙_}
 use borrow.Author.Needs.{needs}

@@ -1,7 +1,7 @@
 -- The array's front holds the path's coordinates.
 use Rattle.host.proofs.Entries.{entries-front, entries-length}
-use Rattle.row.specs.Answer.{pathPoints}
-use Rattle.row.specs.Checks.{verdict}
+use Rattle.stroke.specs.Sweep.{pathPoints}
+use Rattle.checks.specs.Checks.{verdict}
 use Rattle.host.specs.Host.{rowOutcome}
 use Rattle.stroke.specs.Runs.{rowRuns}
 use Rattle.pen.specs.Answer.{penCorners}

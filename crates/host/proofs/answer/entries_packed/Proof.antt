@@ -1,8 +1,9 @@
 -- The row's answer, its three numbers in one.
 use Rattle.host.proofs.Outcomes.{Packed, packed-told}
 use Rattle.host.specs.Host.{packedRowOutcome}
-use Rattle.row.specs.Checks.{verdict}
-use Rattle.row.specs.Answer.{Result, pathPoints}
+use Rattle.checks.specs.Checks.{verdict}
+use Rattle.checks.specs.Answer.{Result}
+use Rattle.stroke.specs.Sweep.{pathPoints}
 use Rattle.stroke.specs.Runs.{blackAt}
 use Rattle.pen.specs.Answer.{penCorners}
 use lib.IntN.{pos}

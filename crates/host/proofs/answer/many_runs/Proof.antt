@@ -6,8 +6,9 @@ use native.Mathlib.Omega.{arith}
 use lib.ListN.{replicate}
 use Rattle.pen.specs.Answer.{penCorners}
 use Rattle.stroke.specs.Runs.{rowRuns}
-use Rattle.row.specs.Answer.{Result, pathPoints}
-use Rattle.row.specs.Checks.{verdict}
+use Rattle.checks.specs.Answer.{Result}
+use Rattle.stroke.specs.Sweep.{pathPoints}
+use Rattle.checks.specs.Checks.{verdict}
 use Rattle.host.specs.Host.{rowOutcome}
 use Rattle.host.proofs.Outcomes.{codeOf, Drawn, runs-told, room-enough}
 use borrow.Author.Needs.{needs}

@@ -1,7 +1,7 @@
 -- A length that no path has is refused; otherwise the coordinates are those of the bytes.
 use Rattle.host.proofs.Verdicts.{bytes-refused, bytes-read}
-use Rattle.row.specs.Answer.{pathPoints}
-use Rattle.row.specs.declared.Verdict.{Verdict}
+use Rattle.stroke.specs.Sweep.{pathPoints}
+use Rattle.checks.specs.declared.Verdict.{Verdict}
 use Rattle.host.specs.Host.{entriesOf, rowOutcome}
 use Rattle.stroke.specs.Runs.{rowRuns}
 use Rattle.pen.specs.Answer.{penCorners}

@@ -1,46 +1,46 @@
 -- The array starts clear, so its black columns are those of the cuts; none lies outside their bounds.
-use Rattle.row.proofs.Bounds.{clear-at, runs-end}
-use Rattle.row.proofs.Together.{runs-array}
-use Rattle.row.specs.Answer.{pathPoints, runsResult}
-use Rattle.stroke.specs.Runs.{Run}
-use Rattle.pen.specs.Answer.{corners}
-use mathlib.Core.List.{List}
 use mathlib.Core.Path.{ap, _∙_}
+use mathlib.Core.List.{List}
+use native.Mathlib.Omega.{arith}
+use Rattle.pen.specs.Answer.{corners}
+use Rattle.stroke.specs.Runs.{Run}
+use Rattle.stroke.specs.Sweep.{pathPoints}
+use Rattle.row.specs.Answer.{runsResult}
+use Rattle.row.proofs.Drawn.{runs-array}
+use Rattle.row.proofs.FarRuns.{runs-end}
+use Rattle.cuts.proofs.Together.{together-bounded}
 use borrow.Author.Needs.{needs}
 use Rattle.row.proofs.draw.several_runs.Statement.{statement}
 use Rattle.row.proofs.draw.several_runs.Tie as tie
+use Rattle.cuts.proofs.put_together.Reads as put-together-reads
+use Rattle.row.proofs.draw.write_far.Reads as write-far-reads
 
--- src/draw.rt:109:18
 slice-aggregate-put-together : tie.Need-slice-aggregate-put-together
 slice-aggregate-put-together c = search needs
 
--- src/draw.rt:109:5
 put-together-requires : tie.Need-put-together-requires
-put-together-requires c κs = let p = c .before .before .pre in (p .0, (p .1 .0, (p .1 .1, (search needs, clear-at 16384))))
+put-together-requires c κs = search needs
 
--- src/draw.rt:110:21
 slice-aggregate-write-far : tie.Need-slice-aggregate-write-far
 slice-aggregate-write-far c = search needs
 
--- src/draw.rt:110:5
 write-far-requires : tie.Need-write-far-requires
 write-far-requires c κs =
-    let e = c .before .before .before .put-together .ensures in
-    (search needs, (search needs, e .1 .0))
+    let a = c .before .before .before .before .before .before .args in
+    let b = together-bounded (corners (a .count) (a .xs .now) (a .ys .now)) (pathPoints (a .path .now)) (a .wide) (a .row) (c .before .before .before .before .before .before .pre .1 .0) (c .before .before .before .put-together .ensures) in
+    (search needs, (omega (arith, b .1, c .before .before .before .before .before .before .pre .1 .0), b .0))
 
--- src/draw.rt:104:1
 same-length : tie.Need-same-length
 same-length c = search needs
 
--- src/draw.rt:104:1
 returns : tie.Need-returns
 returns c =
     let a = c .before .before .before .before .before .before .before .before .before .args in
     let e = c .before .before .before .before .before .before .put-together .ensures in
+    let b = together-bounded (corners (a .count) (a .xs .now) (a .ys .now)) (pathPoints (a .path .now)) (a .wide) (a .row) (c .before .before .before .before .before .before .before .before .before .pre .1 .0) e in
     c .before .before .write-far .ensures
     ∙ ap (λ (rs : List Run). runsResult rs (a .runs .now))
-    (runs-end (e .1 .0) (a .wide) (e .1 .1)
-    ∙ runs-array (corners (a .count) (a .xs .now) (a .ys .now)) (pathPoints (a .path .now)) (a .wide) (a .row) (c .before .before .before .before .before .before .before .before .before .pre .1 .0 .1) (e .0))
+    (runs-end (b .0) (a .wide) (b .1) ∙ runs-array (corners (a .count) (a .xs .now) (a .ys .now)) (a .path .now) (a .wide) (a .row) (c .before .before .before .before .before .before .before .before .before .pre .1 .0) (c .before .before .before .before .before .before .before .before .before .pre .0) (c .before .before .before .before .before .before .before .before .before .pre .1 .1) e)
 
 pub several-runs-spec : {M : Type 1} → statement M
 several-runs-spec =

@@ -5,7 +5,7 @@ use native.Mathlib.Numerals.{add-one}
 use native.Mathlib.Omega.{arith}
 use lib.ListN.{length}
 use Rattle.stroke.specs.Runs.{runsOf}
-use Rattle.row.specs.Cuts.{blackFar}
+use Rattle.cuts.specs.Cuts.{blackFar}
 use Rattle.row.proofs.Pass.{Passed, passed-none, passed-few, passed-next}
 use Rattle.row.proofs.runs.count_runs.Statement.{statement}
 use Rattle.row.proofs.runs.count_runs.Tie as tie

@@ -8,9 +8,9 @@ use native.Mathlib.Omega.{arith}
 use lib.ListN.{length}
 use Rattle.stroke.specs.Runs.{Run, runsOf}
 use Rattle.row.specs.Answer.{listed}
-use Rattle.row.specs.Cuts.{blackFar}
+use Rattle.cuts.specs.Cuts.{blackFar}
 use Rattle.row.proofs.Grown.{runs-more}
-use Rattle.row.proofs.Bounds.{runs-first}
+use Rattle.row.proofs.FarRuns.{runs-first}
 use Rattle.row.proofs.Pass.{Passed, passed-none, passed-few, passed-some, passed-next, passed-listed}
 use Rattle.row.proofs.runs.write_runs.Statement.{statement}
 use Rattle.row.proofs.runs.write_runs.Tie as tie

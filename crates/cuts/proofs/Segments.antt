@@ -1,0 +1,143 @@
+-- The points of a path and its segments, by their place.
+use mathlib.Core.Path.{_≡_, refl, ap, ap₂, _∙_}
+use mathlib.Core.Bool.{true, _&&_}
+use mathlib.Core.Logic.{inl, inr}
+use mathlib.Core.List.{List, [], _∷_, List·Memᴰ·not-nil as not-nil, List·Memᴰ·cases-cons as cases, List·Memᴰ·head as head, List·Memᴰ·tail as tail}
+use Prim.Native.Nat.{ℕ, zero, suc, _+_, _*_, _/_, _-_, _≤_, _<_}
+use native.Mathlib.Omega.{arith}
+use native.Mathlib.Decide.{decLe}
+use lib.ListN.{length, getD}
+use lib.IntN.{ℤ, pos}
+use borrow.Author.Tests.{le-leb}
+use Rattle.integers.specs.Count.{_∈_}
+use Rattle.integers.proofs.Tests.{and-true}
+use Rattle.pen.specs.Polygon.{Pt, pt}
+use Rattle.checks.specs.declared.Verdict.the-variants.{Passed}
+use Rattle.checks.specs.Checks.{inRange, coordinateVerdict}
+use Rattle.checks.proofs.Verdicts.{all-good}
+use Rattle.cuts.proofs.Raster.{Near}
+use Rattle.stroke.specs.Sweep.{Seg, between, segments}
+use Rattle.stroke.specs.Sweep.{pathPoints}
+
+-- ---- points
+pub points-long : (p : List ℤ) → length (pathPoints p) ≡ length p / 2
+unfolding pathPoints
+points-long [] = refl
+points-long (x ∷ []) = refl
+points-long (x ∷ y ∷ l) = let r = points-long l in omega arith
+
+-- a path that has the entries of point k
+pub point-at : (p : List ℤ) (k : ℕ) (d : Pt) → 2 * k + 1 < length p → getD (pathPoints p) k d ≡ pt (getD p (2 * k) (pos 0)) (getD p (2 * k + 1) (pos 0))
+unfolding pathPoints
+point-at [] k d h = absurd (omega arith)
+point-at (x ∷ []) k d h = absurd (omega arith)
+point-at (x ∷ y ∷ l) zero d h = refl
+point-at (x ∷ y ∷ l) (suc k) d h =
+    let e : 2 * suc k ≡ suc (suc (2 * k)) = omega arith in
+    let f : 2 * suc k + 1 ≡ suc (suc (2 * k + 1)) = omega arith in
+    rw (f, e) (point-at l k d (omega arith))
+
+-- ---- segments
+between-long : (P : Pt) (l : List Pt) → length (between P l) ≡ length l
+between-long P [] = refl
+between-long P (Q ∷ l) = ap suc (between-long Q l)
+
+-- one for each point after the first, and one for a path of one point
+pub segments-some : (l : List Pt) → 2 ≤ length l → length (segments l) ≡ length l - 1
+segments-some [] h = absurd (omega arith)
+segments-some (P ∷ []) h = absurd (omega arith)
+segments-some (P ∷ Q ∷ l) h = omega (arith, between-long Q l)
+
+pub segments-few : (l : List Pt) → length l ≤ 1 → length (segments l) ≡ length l
+segments-few [] h = refl
+segments-few (P ∷ []) h = refl
+segments-few (P ∷ Q ∷ l) h = absurd (omega arith)
+
+between-at : (P : Pt) (l : List Pt) (k : ℕ) (d : Pt) (g : Seg) → k < length l → getD (between P l) k g ≡ record { from = getD (P ∷ l) k d; to = getD l k d }
+between-at P [] k d g h = absurd (omega arith)
+between-at P (Q ∷ l) zero d g h = refl
+between-at P (Q ∷ l) (suc k) d g h = between-at Q l k d g (omega arith)
+
+-- the segment from point k to the next one
+pub segment-at : (l : List Pt) (k : ℕ) (d : Pt) (g : Seg) → suc k < length l → getD (segments l) k g ≡ record { from = getD l k d; to = getD l (suc k) d }
+segment-at [] k d g h = absurd (omega arith)
+segment-at (P ∷ []) k d g h = absurd (omega arith)
+segment-at (P ∷ Q ∷ l) k d g h = between-at P (Q ∷ l) k d g (omega arith)
+
+-- the segment of a path of one point
+pub dot-at : (l : List Pt) (d : Pt) (g : Seg) → length l ≡ 1 → getD (segments l) 0 g ≡ record { from = getD l 0 d; to = getD l 0 d }
+dot-at [] d g h = absurd (omega arith)
+dot-at (P ∷ []) d g h = refl
+dot-at (P ∷ Q ∷ l) d g h = absurd (omega arith)
+
+-- ---- segments of a path's entries
+abbrev none : Pt
+none = pt (pos 0) (pos 0)
+
+-- the segment that starts at the entry f, which is that of point k, and ends at the entry t
+abbrev pub Ends : List ℤ → ℕ → ℕ → ℕ → Seg → Type 0
+Ends p k f t g = getD (segments (pathPoints p)) k g
+    ≡ record { from = pt (getD p f (pos 0)) (getD p (f + 1) (pos 0)); to = pt (getD p t (pos 0)) (getD p (t + 1) (pos 0)) }
+
+-- where it is a segment the path has the entries of its start
+pub start-in : (p : List ℤ) (k : ℕ) → k < length (segments (pathPoints p)) → 2 * k + 1 < length p
+start-in p k h = elim (decLe 2 (length (pathPoints p))) [
+  | yes m ↦ omega (arith, segments-some (pathPoints p) m, points-long p)
+  | no m ↦ omega (arith, segments-few (pathPoints p) (omega arith), points-long p)
+]
+
+-- where the path has the next point's entries, these are its end
+pub next-end : (p : List ℤ) (k : ℕ) (g : Seg) → 2 * k + 3 < length p → Ends p k (2 * k) (2 * k + 2) g
+next-end p k g h =
+    let e : 2 * suc k ≡ 2 * k + 2 = omega arith in
+    segment-at (pathPoints p) k none g (omega (arith, points-long p))
+    ∙ ap₂ (λ (P Q : Pt). record { from = P; to = Q }) (point-at p k none (omega arith)) (rw e at (point-at p (suc k) none (omega arith)))
+
+-- where it has not, it is one point
+pub own-end : (p : List ℤ) (k : ℕ) (g : Seg) → k < length (segments (pathPoints p)) → length p ≤ 2 * k + 3 → Ends p k (2 * k) (2 * k) g
+own-end p k g h l = elim (decLe 2 (length (pathPoints p))) [
+  | yes m ↦ absurd (omega (arith, segments-some (pathPoints p) m, points-long p))
+  | no m ↦ one (omega arith)
+]
+  where
+    one : length (pathPoints p) ≤ 1 → Ends p k (2 * k) (2 * k) g
+    one m =
+        let e = segments-few (pathPoints p) m in
+        let z : k ≡ 0 = omega arith in
+        let P = point-at p 0 none (omega (arith, points-long p)) in
+        rw z (dot-at (pathPoints p) none g (omega arith) ∙ ap₂ (λ (P Q : Pt). record { from = P; to = Q }) P P)
+
+-- ---- segments of a path whose coordinates are good
+-- every number of the list is within the limits
+abbrev Good : List ℤ → Type 0
+Good p = (k : ℕ) → k < length p → inRange (getD p k (pos 0)) ≡ true
+
+abbrev GoodPoint : Pt → Type 0
+GoodPoint P = (inRange (P .x) && inRange (P .y)) ≡ true
+
+points-good : (p : List ℤ) → Good p → (P : Pt) → P ∈ pathPoints p → GoodPoint P
+unfolding pathPoints
+points-good [] h P m = absurd (not-nil m)
+points-good (x ∷ []) h P m = absurd (not-nil m)
+points-good (x ∷ y ∷ l) h P m = elim (cases m) [
+  | inl e ↦ rw e (and-true (inRange x) (inRange y) (h 0 (omega arith)) (h 1 (omega arith)))
+  | inr i ↦ points-good l (λ k q. h (suc (suc k)) (omega arith)) P i
+]
+
+between-good : (P : Pt) (l : List Pt) → GoodPoint P → ((Q : Pt) → Q ∈ l → GoodPoint Q) → (g : Seg) → g ∈ between P l → GoodPoint (g .from) × GoodPoint (g .to)
+between-good P [] p h g m = absurd (not-nil m)
+between-good P (Q ∷ l) p h g m = elim (cases m) [
+  | inl e ↦ rw e (p, h Q (head refl))
+  | inr i ↦ between-good Q l (h Q (head refl)) (λ R q. h R (tail q)) g i
+]
+
+segments-good : (l : List Pt) → ((Q : Pt) → Q ∈ l → GoodPoint Q) → (g : Seg) → g ∈ segments l → GoodPoint (g .from) × GoodPoint (g .to)
+segments-good [] h g m = absurd (not-nil m)
+segments-good (P ∷ []) h g m = elim (cases m) [ inl e ↦ rw e (h P (head refl), h P (head refl)) | inr i ↦ absurd (not-nil i) ]
+segments-good (P ∷ Q ∷ l) h g m = between-good P (Q ∷ l) (h P (head refl)) (λ R q. h R (tail q)) g m
+
+-- a path and a row that pass the checks are within the limits of an extent
+pub passed-near : (p : List ℤ) (j : ℕ) → coordinateVerdict p ≡ Passed → j ≤ 16383 → Near (segments (pathPoints p)) j
+passed-near p j e h g m =
+    let s = segments-good (pathPoints p) (points-good p (all-good 0 p e)) g m in
+    and-true _ _ (s .0) (and-true _ _ (s .1) (le-leb j 16383 h))

@@ -1,0 +1,129 @@
+// The segments of a path, and the columns of each in a row, cut to the raster.
+use crate::Touch;
+use integers::max;
+use integers::min;
+use stroke::Extent;
+ghost use mathlib.Core.Path.{_≡_};
+ghost use Prim.Native.Nat.{ℕ, _+_, _*_, _≤_, _<_};
+ghost use lib.ListN.{length, getD};
+ghost use lib.IntN.{pos};
+ghost use Rattle.pen.specs.Answer.{corners};
+ghost use Rattle.stroke.specs.Sweep.{Seg, segments, pathPoints};
+ghost use Rattle.stroke.specs.Answer.{seg};
+ghost use Rattle.stroke.specs.declared.Extent.the-variants as extent·;
+ghost use Rattle.cuts.specs.Cuts.{cutTo, cuts, touched, touchOf};
+
+// The columns of one segment within the raster, both included, or none.
+pub enum Cut {
+    Nothing,
+    Columns(usize, usize),
+}
+
+// One for each point after the first, and one for a path of one point.
+pub fn segment_count(path: &[i32]) -> usize
+    ensures { λ r. ⌜ r ≡ length (segments (pathPoints (now (path .entry)))) ⌝ }
+{
+    let points = path.len() / 2;
+    if points <= 1 {
+        return points;
+    }
+    points - 1
+}
+
+// The columns from first to last that the raster has. They can lie anywhere: both are compared with
+// the raster's ends before they become unsigned.
+fn cut_span(first: i64, last: i64, wide: usize) -> Cut
+    requires { ⌜ 1 ≤ wide ⌝ ∗ ⌜ wide ≤ 16384 ⌝ }
+    ensures { λ r. ⌜ r ≡ cutTo wide (extent·.Columns first last) ⌝ }
+{
+    let l = max(first, 0);
+    let r = min(last, wide as i64 - 1);
+    if l <= r {
+        return Cut::Columns(l as usize, r as usize);
+    }
+    Cut::Nothing
+}
+
+// What the segments so far and one more make of the row.
+fn touched(t: Touch, c: Cut) -> Touch
+    ensures { λ r. ⌜ r ≡ touched t c ⌝ }
+{
+    let Cut::Columns(left, right) = c else {
+        return t;
+    };
+    match t {
+        Touch::Untouched => Touch::One(left, right),
+        Touch::One(_, _) => Touch::Several,
+        Touch::Several => Touch::Several,
+    }
+}
+
+// Where the end of segment k stands in the path: after its start, or, where the path is one point,
+// there.
+fn end_of(path: &[i32], k: usize) -> usize
+    requires { ⌜ k < length (segments (pathPoints (now path))) ⌝ }
+    ensures { λ r. ⌜ (2 * k ≤ r) × (r + 1 < length (now (path .entry))) ⌝ ∗ ⌜ ((g : Seg) → getD (segments (pathPoints (now (path .entry)))) k g ≡ seg (getD (now (path .entry)) (2 * k) (pos 0)) (getD (now (path .entry)) (2 * k + 1) (pos 0)) (getD (now (path .entry)) r (pos 0)) (getD (now (path .entry)) (r + 1) (pos 0))) ⌝ }
+{
+    let from = 2 * k;
+    if from + 3 < path.len() {
+        return from + 2;
+    }
+    from
+}
+
+// The columns of the raster that segment k has in a row, for the pen whose corners are the first
+// `count` places of xs and ys.
+pub fn cut_at<'a>(
+    xs: &'a [i8],
+    ys: &'a [i8],
+    count: usize,
+    path: &[i32],
+    k: usize,
+    columns: usize,
+    row: u64,
+) -> Cut
+    requires { ⌜ k < length (segments (pathPoints (now path))) ⌝ ∗ ⌜ (1 ≤ columns) × (columns ≤ 16384) ⌝ }
+    ensures { λ r. ⌜ r ≡ getD (cuts (corners count (now (xs .entry)) (now (ys .entry))) (pathPoints (now (path .entry))) columns row) k Cut.Nothing ⌝ ∗ ⌜ ((left right : ℕ) → r ≡ Cut.Columns left right → (left ≤ right) × (right < columns)) ⌝ }
+{
+    let to = end_of(path, k);
+    let from = 2 * k;
+    let e = stroke::extent_at(
+        xs,
+        ys,
+        count,
+        path[from],
+        path[from + 1],
+        path[to],
+        path[to + 1],
+        row,
+    );
+    let Extent::Columns(first, last) = e else {
+        return Cut::Nothing;
+    };
+    cut_span(first, last, columns)
+}
+
+// Several stay several, so the second segment that touches the row ends the search.
+pub fn first_touches<'a>(
+    xs: &'a [i8],
+    ys: &'a [i8],
+    count: usize,
+    path: &[i32],
+    columns: usize,
+    row: u64,
+) -> Touch
+    requires { ⌜ (1 ≤ columns) × (columns ≤ 16384) ⌝ }
+    ensures { λ r. ⌜ r ≡ touchOf (cuts (corners count (now (xs .entry)) (now (ys .entry))) (pathPoints (now (path .entry))) columns row) Touch.Untouched ⌝ }
+{
+    let n = segment_count(path);
+    let mut t = Touch::Untouched;
+    let mut k = 0;
+    while k < n {
+        t = touched(t, cut_at(xs, ys, count, path, k, columns, row));
+        if let Touch::Several = t {
+            return Touch::Several;
+        }
+        k += 1;
+    }
+    t
+}

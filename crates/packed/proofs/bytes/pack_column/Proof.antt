@@ -1,0 +1,81 @@
+-- Inside the raster the column is black where it lies before the reach, and past it the bit is spare.
+use Rattle.packed.proofs.PackedFar.{reach-on, reach-stays}
+use Rattle.cuts.specs.Cuts.{reachTo, blackFar}
+use Rattle.integers.proofs.Tests.{and-true, and-false, false-and}
+use lib.Dec.{ltb}
+use borrow.Author.Tests.{lt-ltb, le-ltb}
+use native.Mathlib.Omega.{arith}
+use mathlib.Core.Bool.{Bool, cond}
+use mathlib.Core.Path.{_≡_, sym, ap}
+use Prim.Native.Nat.{ℕ}
+use borrow.Author.Needs.{needs}
+use Rattle.packed.proofs.bytes.pack_column.Statement.{statement}
+use Rattle.packed.proofs.bytes.pack_column.Tie as tie
+use Rattle.cuts.proofs.further.Reads as further-reads
+
+-- a test's answer as a bit
+bit : {t u : Bool} → t ≡ u → _≡_ {A = ℕ} (cond t 1 0) (cond u 1 0)
+bit e = ap (λ (v : Bool). cond v 1 0) e
+
+mul-t7 : tie.Need-mul-t7
+mul-t7 c = search needs
+
+returns : tie.Need-returns
+returns c =
+    let a = c .before .before .before .args in
+    let l = c .before .if1 .taken in
+    let spare = sym (false-and (ltb (a .x) (a .columns)) (blackFar (a .far .now) (a .x)) (le-ltb (a .x) (a .columns) l)) in
+    (omega (arith, bit spare), reach-stays (a .far .now) (a .columns) (a .x) l (c .before .before .before .pre .1 .1))
+
+mul-further : tie.Need-mul-further
+mul-further c = search needs
+
+shared-slice-read-further : tie.Need-shared-slice-read-further
+shared-slice-read-further c = search needs
+
+further-requires : tie.Need-further-requires
+further-requires c κs = search needs
+
+cast-if2 : tie.Need-cast-if2
+cast-if2 c = search needs
+
+mul-t11 : tie.Need-mul-t11
+mul-t11 c = search needs
+
+add-t12 : tie.Need-add-t12
+add-t12 c = search needs
+
+returns-2 : tie.Need-returns-2
+returns-2 c =
+    let a = c .before .before .before .before .before .before .args in
+    let l = c .before .before .before .before .if1 .left in
+    let r = reach-on (a .far .now) (a .columns) (a .x) l (c .before .before .before .before .before .before .pre .1 .1) (c .before .before .further .ensures) in
+    let b = lt-ltb (a .x) (reachTo (a .far .now) (a .x)) (omega (arith, r .0, c .before .if2 .taken)) in
+    (omega (arith, bit (and-true (ltb (a .x) (a .columns)) (blackFar (a .far .now) (a .x)) (lt-ltb (a .x) (a .columns) l) b)), r .1)
+
+mul-t13 : tie.Need-mul-t13
+mul-t13 c = search needs
+
+returns-3 : tie.Need-returns-3
+returns-3 c =
+    let a = c .before .before .before .before .before .before .args in
+    let l = c .before .before .before .before .if1 .left in
+    let r = reach-on (a .far .now) (a .columns) (a .x) l (c .before .before .before .before .before .before .pre .1 .1) (c .before .before .further .ensures) in
+    let b = le-ltb (a .x) (reachTo (a .far .now) (a .x)) (omega (arith, r .0, c .before .if2 .left)) in
+    (omega (arith, bit (and-false (ltb (a .x) (a .columns)) (blackFar (a .far .now) (a .x)) b)), r .1)
+
+pub pack-column-spec : {M : Type 1} → statement M
+pack-column-spec =
+    tie.close
+    (tie.spec
+    mul-t7
+    returns
+    mul-further
+    shared-slice-read-further
+    further-requires
+    cast-if2
+    mul-t11
+    add-t12
+    returns-2
+    mul-t13
+    returns-3)

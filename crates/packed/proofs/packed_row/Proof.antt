@@ -1,0 +1,56 @@
+-- Where no pen is held the call refuses; otherwise the row is that of the place's pen.
+use Rattle.packed.proofs.Calls.{call-refused, call-at}
+use Rattle.aperture.proofs.Theorems.{looked-small}
+use native.Mathlib.Omega.{arith}
+use mathlib.Core.Path.{sym, _∙_}
+use borrow.Author.Needs.{needs}
+use Rattle.packed.proofs.packed_row.Statement.{statement}
+use Rattle.packed.proofs.packed_row.Tie as tie
+use Rattle.aperture.proofs.look_up.Reads as look-up-reads
+use Rattle.checks.proofs.report.Reads as report-reads
+use Rattle.packed.proofs.packed_for.Reads as packed-for-reads
+
+look-up-requires : tie.Need-look-up-requires
+look-up-requires c κs = search needs
+
+enum-known-i : tie.Need-enum-known-i
+enum-known-i c = search needs
+
+enum-told : tie.Need-enum-told
+enum-told c = search needs
+
+report-requires : tie.Need-report-requires
+report-requires c κs = search needs
+
+returns : tie.Need-returns
+returns c = let a = c .before .before .before .before .before .args in call-refused (a .t1) (a .number) (a .path .now) (a .columns) (a .rows) (a .row) (a .bytes .now) (sym (c .before .before .before .look-up .ensures) ∙ c .before .enum-told .given .1) (c .report .ensures)
+
+mul-place : tie.Need-mul-place
+mul-place c = let b = looked-small (c .before .before .before .before .before .args .t1) (c .before .before .before .before .before .args .number) (c .before .i .given .0 .0) (sym (c .before .before .before .look-up .ensures) ∙ c .before .i .given .1) in record { fits = omega (arith, b) }
+
+element-copy-out-place : tie.Need-element-copy-out-place
+element-copy-out-place c = looked-small (c .before .before .before .before .before .args .t1) (c .before .before .before .before .before .args .number) (c .before .i .given .0 .0) (sym (c .before .before .before .look-up .ensures) ∙ c .before .i .given .1)
+
+packed-for-requires : tie.Need-packed-for-requires
+packed-for-requires c κs = search needs
+
+same-length : tie.Need-same-length
+same-length c = search needs
+
+returns-2 : tie.Need-returns-2
+returns-2 c = let a = c .before .before .before .before .before .before .before .before .before .before .args in c .before .before .packed-for .ensures ∙ call-at (a .t1) (a .number) (a .path .now) (a .columns) (a .rows) (a .row) (a .bytes .now) (c .before .before .before .before .before .before .i .given .0 .0) (sym (c .before .before .before .before .before .before .before .before .look-up .ensures) ∙ c .before .before .before .before .before .before .i .given .1)
+
+pub packed-row-spec : {M : Type 1} → statement M
+packed-row-spec =
+    tie.close
+    (tie.spec
+    look-up-requires
+    enum-known-i
+    enum-told
+    report-requires
+    returns
+    mul-place
+    element-copy-out-place
+    packed-for-requires
+    same-length
+    returns-2)

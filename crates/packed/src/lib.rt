@@ -1,0 +1,61 @@
+// The packed row: which columns of one row a path blackens, as bits, for a raw PBM file.
+//
+// The way of the data: the checks in document 01's order, the segments' columns in the row, cut to
+// the raster (both in crates of their own), and the bytes (bytes); draw leads through these.
+use aperture::Looked;
+use aperture::Table;
+use checks::Answer;
+use checks::Verdict;
+use pen::Pen;
+ghost use mathlib.Core.Path.{_≡_};
+ghost use Rattle.pen.specs.Answer.{penCorners};
+ghost use Rattle.packed.specs.Packed.{packResult, packedCall};
+
+mod bytes;
+mod draw;
+
+// The row for an aperture, a bit to a column. The checks are those of document 01, in its order: 6,
+// 2, 4, 5, 3, 7.
+pub fn packed_row(
+    table: Table,
+    number: u64,
+    path: &[i32],
+    columns: u64,
+    rows: u64,
+    row: u64,
+    bytes: &mut [u8],
+) -> Answer
+    ensures { λ r. ⌜ record { answer = r; list = now (bytes .exit) } ≡ packedCall table number (now (path .entry)) columns rows row (now (bytes .entry)) ⌝ }
+{
+    let Looked::At(i) = aperture::look_up(table, number) else {
+        return checks::report(Verdict::Refused(6, 0));
+    };
+    let place = table.places[i];
+    packed_for(place.pen, path, columns, rows, row, bytes)
+}
+
+// The row for a pen, whatever its arrays hold.
+pub fn packed_for(
+    pen: Pen,
+    path: &[i32],
+    columns: u64,
+    rows: u64,
+    row: u64,
+    bytes: &mut [u8],
+) -> Answer
+    ensures { λ r. ⌜ record { answer = r; list = now (bytes .exit) } ≡ packResult (penCorners pen) (now (path .entry)) columns rows row (now (bytes .entry)) ⌝ }
+{
+    let checked = checks::check(path, columns, rows, row);
+    let Verdict::Passed = checked else {
+        return checks::report(checked);
+    };
+    draw::draw_packed(
+        bytes,
+        &pen.x,
+        &pen.y,
+        pen.count,
+        path,
+        columns as usize,
+        row,
+    )
+}
