@@ -6,8 +6,10 @@ use lib.Dec.{leb}
 use lib.ListN.{getD, set, replicate}
 use Rattle.setting.specs.declared.Setting.{Setting}
 use Rattle.pen.specs.declared.Pen.{Pen}
-use Rattle.setting.specs.Refusal.{Refusal, number, aperture, setting, inUse}
+use Rattle.setting.specs.Refusal.{Refusal, number, aperture, inUse}
 use Rattle.setting.specs.Setting.{taken}
+use Rattle.setting.specs.declared.Checked.the-variants as checked·
+use Rattle.setting.specs.Answer.{checkedNumber}
 use Rattle.pen.specs.Polygon.{Pt, pen}
 use Rattle.pen.specs.Answer.{penOf, penCorners}
 use Rattle.aperture.specs.declared.Place.{Place}
@@ -48,7 +50,7 @@ unfoldable pub defined : Table → ℕ → Setting → Changed
 defined t n σ = elim (isNumber n) [
   | false ↦ refused aperture t
   | true ↦ elim (taken σ) [
-    | false ↦ refused setting t
+    | false ↦ record { refusal = checkedNumber checked·.Refused; table = t }
     | true ↦ elim (placeOf t n .used) [ true ↦ refused inUse t | false ↦ done (withPlace t n (holding σ)) ]
   ]
 ]
