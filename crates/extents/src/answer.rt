@@ -1,50 +1,30 @@
 // The bytes of an answer.
 ghost use mathlib.Core.Path.{_≡_};
-ghost use Prim.Native.Nat.{_<_};
-ghost use Rattle.extents.specs.Answer.{bitsOf, byteOf, bytesOf};
-
-// A signed number's bits in two's complement.
-fn bits(z: i64) -> u64
-    ensures { λ r. ⌜ r ≡ bitsOf z ⌝ }
-{
-    if z < 0 {
-        18446744073709551615 - ((-1 - z) as u64)
-    } else {
-        z as u64
-    }
-}
-
-// The byte of n that counts multiples of `unit`.
-fn byte(n: u64, unit: u64) -> u8
-    requires { ⌜ 0 < unit ⌝ }
-    ensures { λ r. ⌜ r ≡ byteOf n unit ⌝ }
-{
-    (n / unit % 256) as u8
-}
+ghost use Rattle.extents.specs.Answer.{bytesOf};
 
 // The byte 1 and the two columns, lowest byte first.
 pub fn columns(first: i64, last: i64) -> [u8; 17]
     ensures { λ r. ⌜ r ≡ bytesOf first last ⌝ }
 {
-    let f = bits(first);
-    let l = bits(last);
+    let f = wire::eight(first);
+    let l = wire::eight(last);
     [
         1,
-        byte(f, 1),
-        byte(f, 256),
-        byte(f, 65536),
-        byte(f, 16777216),
-        byte(f, 4294967296),
-        byte(f, 1099511627776),
-        byte(f, 281474976710656),
-        byte(f, 72057594037927936),
-        byte(l, 1),
-        byte(l, 256),
-        byte(l, 65536),
-        byte(l, 16777216),
-        byte(l, 4294967296),
-        byte(l, 1099511627776),
-        byte(l, 281474976710656),
-        byte(l, 72057594037927936),
+        f[0],
+        f[1],
+        f[2],
+        f[3],
+        f[4],
+        f[5],
+        f[6],
+        f[7],
+        l[0],
+        l[1],
+        l[2],
+        l[3],
+        l[4],
+        l[5],
+        l[6],
+        l[7],
     ]
 }

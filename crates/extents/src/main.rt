@@ -5,7 +5,6 @@
 // An incomplete record at the end is ignored. To each record standard output gets the byte 0 for
 // nothing, or the byte 1 and the first and the last column, of eight bytes each.
 mod answer;
-mod record;
 
 use libc::STDIN_FILENO;
 use libc::STDOUT_FILENO;
@@ -13,12 +12,12 @@ use pen::Pen;
 use stroke::Extent;
 
 // Writes what the segment of a record leaves in its row. A negative row reads as one far too large.
-fn write(s: &[u8; 48], pen: Pen) -> bool {
-    let ax = record::signed(s, 24);
-    let ay = record::signed(s, 28);
-    let bx = record::signed(s, 32);
-    let by = record::signed(s, 36);
-    let row = record::number(s, 40);
+fn write(s: &[u8], pen: Pen) -> bool {
+    let ax = wire::signed(s, 24);
+    let ay = wire::signed(s, 28);
+    let bx = wire::signed(s, 32);
+    let by = wire::signed(s, 36);
+    let row = wire::number(s, 40);
     let Extent::Columns(first, last) = stroke::extent_of(pen, ax, ay, bx, by, row) else {
         let nothing = [0u8; 1];
         return io::write_all(STDOUT_FILENO, &nothing);
@@ -34,9 +33,9 @@ fn one() -> bool {
     if n < 48 {
         return false;
     }
-    let w = record::number(&bytes, 0);
-    let p = record::number(&bytes, 8);
-    let q = record::number(&bytes, 16);
+    let w = wire::number(&bytes, 0);
+    let p = wire::number(&bytes, 8);
+    let q = wire::number(&bytes, 16);
     // A refused setting's pen has no corners, and leaves nothing.
     let b = pen::build(w, p, q);
     let pen = b.pen;

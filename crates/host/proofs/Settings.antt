@@ -7,14 +7,17 @@ use native.Mathlib.Omega.{arith}
 use lib.IntN.{pos}
 use Rattle.setting.specs.declared.Setting.{Setting}
 use Rattle.pen.specs.declared.Built.{Built}
+use Rattle.pen.specs.declared.Pen.{Pen}
 use Rattle.setting.specs.Setting.{taken}
 use Rattle.pen.specs.Polygon.{Pt, pen}
 use Rattle.pen.specs.Answer.{penCorners, built}
 use Rattle.pen.proofs.Laid.{corners-back}
 use Rattle.pen.proofs.Answers.{pen-built, none-built}
-use Rattle.stroke.specs.Runs.{rowRuns, blackAt}
+use Rattle.stroke.specs.Runs.{blackAt}
 use Rattle.stroke.specs.Sweep.{pathPoints}
-use Rattle.host.specs.Host.{entriesOf, bytesVerdict, refused, rowOutcome, hostRow, packedRowOutcome, hostPackedRow}
+use Rattle.wire.specs.Read.{entriesOf}
+use Rattle.host.specs.Host.{bytesVerdict, refused, hostRow, packedRowOutcome, hostPackedRow}
+use Rattle.host.specs.Call.{runsWith, packedWith, bytesCall}
 
 -- what building the pen tells
 pub built-refused : (σ : Setting) (r : Built) → r ≡ built σ → ¬ (r .refusal ≡ 0) → taken σ ≡ false
@@ -40,15 +43,14 @@ module _ (σ : Setting) (path : List ℕ) (columns rows j : ℕ) (b : List ℕ) 
   unfolding hostRow
   row-refused e = rw (hostRow, e)
 
-  pub row-goes-on : {cs : List Pt} → taken σ ≡ true → cs ≡ pen σ → rowOutcome (bytesVerdict path columns rows j) (rowRuns cs (pathPoints (entriesOf path)) columns j) b ≡ hostRow σ path columns rows j b
-  unfolding hostRow
-  row-goes-on e f = rw (hostRow, e, f)
+  pub row-goes-on : (p : Pen) → taken σ ≡ true → penCorners p ≡ pen σ → bytesCall (record { pen = p; columns = columns; rows = rows; row = j; packed = false }) path b ≡ hostRow σ path columns rows j b
+  unfolding hostRow runsWith
+  row-goes-on p e f = rw (hostRow, e, f)
 
   pub packed-refused : taken σ ≡ false → refused 1 0 b ≡ hostPackedRow σ path columns rows j b
   unfolding hostPackedRow
   packed-refused e = rw (hostPackedRow, e)
 
-  pub packed-goes-on : {cs : List Pt} → taken σ ≡ true → cs ≡ pen σ →
-      packedRowOutcome (bytesVerdict path columns rows j) (λ x. blackAt cs (pathPoints (entriesOf path)) (pos j) (pos x)) columns b ≡ hostPackedRow σ path columns rows j b
-  unfolding hostPackedRow
-  packed-goes-on e f = rw (hostPackedRow, e) (ap (λ (cs : List Pt). packedRowOutcome (bytesVerdict path columns rows j) (λ x. blackAt cs (pathPoints (entriesOf path)) (pos j) (pos x)) columns b) f)
+  pub packed-goes-on : (p : Pen) → taken σ ≡ true → penCorners p ≡ pen σ → bytesCall (record { pen = p; columns = columns; rows = rows; row = j; packed = true }) path b ≡ hostPackedRow σ path columns rows j b
+  unfolding hostPackedRow packedWith
+  packed-goes-on p e f = rw (hostPackedRow, e) (ap (λ (cs : List Pt). packedRowOutcome (bytesVerdict path columns rows j) (λ x. blackAt cs (pathPoints (entriesOf path)) (pos j) (pos x)) columns b) f)

@@ -13,8 +13,9 @@ use Rattle.setting.specs.Refusal.{Refusal, number, path, raster, row, coordinat
 use Rattle.checks.specs.Checks.{inRange, refuse, unless, isSize, pathVerdict, rasterVerdict, rowVerdict, coordinateFrom, coordinateVerdict, _then_, verdict}
 use Rattle.checks.specs.declared.Verdict.{Verdict}
 use Rattle.checks.specs.declared.Verdict.the-variants.{Passed, Refused}
-use Rattle.host.specs.Host.{entriesOf, bytesVerdict}
-use Rattle.host.proofs.Entries.{entries-length}
+use Rattle.wire.specs.Read.{entriesOf}
+use Rattle.wire.proofs.Entries.{entries-length}
+use Rattle.host.specs.Host.{bytesVerdict}
 
 -- ---- the length of the bytes
 -- a path with too many entries is refused, whatever else is wrong

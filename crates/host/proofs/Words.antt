@@ -1,43 +1,31 @@
--- The bytes of a list of numbers, two to each; and of a list of runs.
-use Prim.Native.Nat.{ℕ, zero, suc, _+_, _*_, _/_, _%_, _<_}
-use mathlib.Core.Path.{_≡_, refl, ap, _∙_}
+-- The bytes of a list of runs, as those of its numbers.
+use Prim.Native.Nat.{ℕ, _*_, _/_, _%_, _≤_}
+use mathlib.Core.Path.{_≡_, refl, ap, ap₂, _∙_}
 use mathlib.Core.List.{List, [], _∷_, _++_}
 use native.Mathlib.Omega.{arith}
-use lib.ListN.{length, getD, take}
+use lib.ListN.{length, take, drop, length-append}
+use lib.Seq.{take-at}
+use Rattle.wire.specs.Write.{wordBytes, encoded}
+use Rattle.wire.proofs.Laws.{encoded-all}
 use Rattle.stroke.specs.Runs.{Run}
-use Rattle.row.specs.Answer.{flat}
+use Rattle.row.specs.Answer.{flat, listed}
 use Rattle.host.specs.Host.{runBytes}
-use Rattle.host.specs.Words.{wordBytes}
 
-pub words-length : (l : List ℕ) → length (wordBytes l) ≡ 2 * length l
-unfolding wordBytes
-words-length [] = refl
-words-length (x ∷ l) = omega (arith, words-length l)
+flat-length : (rs : List Run) → length (flat rs) ≡ 2 * length rs
+flat-length [] = refl
+flat-length (r ∷ rs) = omega (arith, flat-length rs)
 
--- the two bytes of number i
-pub low-at : (l : List ℕ) (i : ℕ) → i < length l → getD (wordBytes l) (2 * i) 0 ≡ getD l i 0 % 256
+flat-words : (rs : List Run) → wordBytes (flat rs) ≡ runBytes rs
 unfolding wordBytes
-low-at [] i h = absurd (omega arith)
-low-at (x ∷ l) zero h = refl
-low-at (x ∷ l) (suc i) h = ap (λ (k : ℕ). getD (wordBytes (x ∷ l)) k 0) e ∙ low-at l i (omega arith)
-  where
-    e : 2 * suc i ≡ suc (suc (2 * i))
-    e = omega arith
-
-pub high-at : (l : List ℕ) (i : ℕ) → i < length l → getD (wordBytes l) (2 * i + 1) 0 ≡ getD l i 0 / 256
-unfolding wordBytes
-high-at [] i h = absurd (omega arith)
-high-at (x ∷ l) zero h = refl
-high-at (x ∷ l) (suc i) h = ap (λ (k : ℕ). getD (wordBytes (x ∷ l)) k 0) e ∙ high-at l i (omega arith)
-  where
-    e : 2 * suc i + 1 ≡ suc (suc (2 * i + 1))
-    e = omega arith
+flat-words [] = refl
+flat-words (r ∷ rs) = ap (λ (b : List ℕ). r .left % 256 ∷ r .left / 256 ∷ r .right % 256 ∷ r .right / 256 ∷ b) (flat-words rs)
 
 -- runs, whatever stands after them in the list
-pub run-words : (rs : List Run) (l : List ℕ) → take (4 * length rs) (wordBytes (flat rs ++ l)) ≡ runBytes rs
-unfolding wordBytes
-run-words [] l = refl
-run-words (r ∷ rs) l = ap (λ (n : ℕ). take n (wordBytes (flat (r ∷ rs) ++ l))) e ∙ ap (λ (b : List ℕ). r .left % 256 ∷ r .left / 256 ∷ r .right % 256 ∷ r .right / 256 ∷ b) (run-words rs l)
+pub run-words : (rs : List Run) (l b : List ℕ) → length rs ≤ length b / 4 → encoded (listed rs l) (2 * length rs) b ≡ runBytes rs ++ drop (4 * length rs) b
+run-words rs l b h =
+    encoded-all (listed rs l) (2 * length rs) b (omega (arith, length-append (flat rs) (drop (2 * length rs) l), flat-length rs)) (omega arith)
+    ∙ ap₂ (λ (x : List ℕ) (n : ℕ). wordBytes x ++ drop n b) (take-at (flat rs) (drop (2 * length rs) l) (2 * length rs) (flat-length rs)) fours
+    ∙ ap (λ (x : List ℕ). x ++ drop (4 * length rs) b) (flat-words rs)
   where
-    e : 4 * suc (length rs) ≡ suc (suc (suc (suc (4 * length rs))))
-    e = omega arith
+    fours : 2 * (2 * length rs) ≡ 4 * length rs
+    fours = omega arith

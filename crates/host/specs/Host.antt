@@ -1,11 +1,12 @@
 -- Document 01, "What the drawer does": "The plotter's host program is written in C; it calls the row answer and the packed row with numbers and byte slices
 -- only."
-use Prim.Native.Nat.{ℕ, zero, suc, _+_, _*_, _/_, _%_, _-_, _^_}
-use mathlib.Core.Bool.{Bool, true, false, cond}
+use Prim.Native.Nat.{ℕ, _+_, _*_, _/_, _%_}
+use mathlib.Core.Bool.{Bool, cond}
 use mathlib.Core.List.{List, [], _∷_, _++_}
-use lib.Dec.{leb, ltb, eqb}
+use lib.Dec.{leb, eqb}
 use lib.ListN.{length, drop}
-use lib.IntN.{ℤ, pos, _-ℤ_}
+use lib.IntN.{pos}
+use Rattle.wire.specs.Read.{entriesOf}
 use Rattle.setting.specs.declared.Setting.{Setting}
 use Rattle.setting.specs.Refusal.{Refusal, number, setting, path, room}
 use Rattle.setting.specs.Setting.{taken}
@@ -16,20 +17,6 @@ use Rattle.checks.specs.declared.Verdict.the-variants.{Passed, Refused}
 use Rattle.checks.specs.Checks.{unless, _then_, verdict}
 use Rattle.stroke.specs.Sweep.{pathPoints}
 use Rattle.packed.specs.Packed.{packed, packedLength}
-
--- "the path is bytes, four to a coordinate, two's complement, lowest byte first"
-abbrev pub unsigned : ℕ → ℕ → ℕ → ℕ → ℕ
-unsigned a b c d = a + 256 * (b + 256 * (c + 256 * d))
-
-abbrev pub signed : ℕ → ℤ
-signed n = cond (ltb n (2 ^ 31)) (pos n) (pos n -ℤ pos (2 ^ 32))
-
-unfoldable pub entriesOf : List ℕ → List ℤ
-entriesOf [] = []
-entriesOf (a ∷ []) = []
-entriesOf (a ∷ b ∷ []) = []
-entriesOf (a ∷ b ∷ c ∷ []) = []
-entriesOf (a ∷ b ∷ c ∷ d ∷ l) = signed (unsigned a b c d) ∷ entriesOf l
 
 -- "There the setting is given as w, p, q instead of an aperture number (so refusal 1 stands where 6 stood in the order) .. and a length that is no multiple
 -- of four is refusal 2"

@@ -1,12 +1,13 @@
 // The row answer and the packed row for a host program in C: numbers and byte slices only.
 //
-// The way of the data: the setting's pen, the path's coordinates from bytes (bytes), the row's
-// answer (answer), and the answer in one number.
+// The way of the data: the setting's pen, the path's coordinates from bytes (wire), the row's answer
+// (answer), and the answer in one number.
 ghost use mathlib.Core.Path.{_≡_};
 ghost use Rattle.host.specs.Host.{hostRow, hostPackedRow};
 
 mod answer;
-mod bytes;
+
+use crate::answer::Call;
 
 // The black runs of a row, four bytes each: left and right column, lowest byte first.
 #[no_mangle]
@@ -24,9 +25,17 @@ pub extern "C" fn zimarolfo_row(
 {
     let built = pen::build(w, p, q);
     if built.refusal != 0 {
-        return answer::refused(1);
+        return 1;
     }
-    answer::runs(built.pen, path, columns, rows, row, runs)
+    let pen = built.pen;
+    let call = Call {
+        pen,
+        columns,
+        rows,
+        row,
+        packed: false,
+    };
+    answer::of_bytes(call, path, runs)
 }
 
 // The same row as packed bits.
@@ -45,7 +54,15 @@ pub extern "C" fn zimarolfo_packed_row(
 {
     let built = pen::build(w, p, q);
     if built.refusal != 0 {
-        return answer::refused(1);
+        return 1;
     }
-    answer::packed(built.pen, path, columns, rows, row, bytes)
+    let pen = built.pen;
+    let call = Call {
+        pen,
+        columns,
+        rows,
+        row,
+        packed: true,
+    };
+    answer::of_bytes(call, path, bytes)
 }

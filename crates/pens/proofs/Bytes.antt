@@ -10,7 +10,8 @@ use lib.IntN.{ℤ, pos}
 use Rattle.pen.specs.declared.Pen.{Pen}
 use Rattle.pen.specs.Polygon.{Pt, pt}
 use Rattle.pen.specs.Answer.{points, corners}
-use Rattle.pens.specs.Answer.{byteOf, pairs}
+use Rattle.wire.specs.Write.{byteOf}
+use Rattle.pens.specs.Answer.{pairs}
 
 -- the lists with a last corner more
 points-snoc : (xs ys : List ℤ) (a b : ℤ) → length xs ≡ length ys → points (xs ++ (a ∷ [])) (ys ++ (b ∷ [])) ≡ points xs ys ++ (pt a b ∷ [])

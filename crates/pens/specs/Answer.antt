@@ -1,18 +1,14 @@
 -- An answer: a byte for the refusal, one for the number of corners, and two to a corner.
-use Prim.Native.Nat.{ℕ, _-_, _≤_}
+use Prim.Native.Nat.{ℕ, _≤_}
 use mathlib.Core.Path.{_≡_}
 use mathlib.Core.List.{List, [], _∷_}
 use lib.ListN.{length, getD}
-use lib.IntN.{ℤ, pos, negsuc}
+use lib.IntN.{pos}
 use Rattle.integers.specs.Bound.{Abs}
+use Rattle.wire.specs.Write.{byteOf}
 use Rattle.pen.specs.declared.Built.{Built}
 use Rattle.pen.specs.Polygon.{Pt}
 use Rattle.pen.specs.Answer.{corners}
-
--- two's complement
-abbrev pub byteOf : ℤ → ℕ
-byteOf (pos n) = n
-byteOf (negsuc n) = 255 - n
 
 unfoldable pub pairs : List Pt → List ℕ
 pairs [] = []

@@ -1,3 +1,2 @@
--- The bytes that the tool reads and writes.
-pub mod Number
+-- The bytes that the tool writes.
 pub mod Answer

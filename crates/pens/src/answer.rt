@@ -4,26 +4,16 @@ ghost use mathlib.Core.Path.{_≡_};
 ghost use Prim.Native.Nat.{_+_, _<_};
 ghost use lib.ListN.{length, take, set};
 ghost use Rattle.io.specs.Counts.{Counts};
-ghost use Rattle.pens.specs.Answer.{byteOf, Encodable, answer};
-
-// A signed number's byte in two's complement.
-fn byte(z: i8) -> u8
-    ensures { λ r. ⌜ r ≡ byteOf z ⌝ }
-{
-    if z < 0 {
-        255 - ((-1 - z) as u8)
-    } else {
-        z as u8
-    }
-}
+ghost use Rattle.wire.specs.Write.{byteOf};
+ghost use Rattle.pens.specs.Answer.{Encodable, answer};
 
 // Stores the two bytes of a corner.
 fn put(out: &mut [u8; 266], at: usize, x: i8, y: i8)
     requires { ⌜ at + 1 < 266 ⌝ }
     ensures { λ _. ⌜ now (out .exit) ≡ set (set (now (out .entry)) at (byteOf x)) (at + 1) (byteOf y) ⌝ }
 {
-    out[at] = byte(x);
-    out[at + 1] = byte(y);
+    out[at] = wire::byte(x);
+    out[at + 1] = wire::byte(y);
 }
 
 // Writes an answer to the start of out, and answers how many bytes it has.

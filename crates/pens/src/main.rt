@@ -5,7 +5,6 @@
 // byte for the refusal, one for the number of corners, then two bytes to a corner, its x and its y
 // in half pixels, each in two's complement.
 mod answer;
-mod input;
 
 use libc::STDIN_FILENO;
 use libc::STDOUT_FILENO;
@@ -17,9 +16,9 @@ fn one() -> bool {
     if n < 24 {
         return false;
     }
-    let w = input::number(&bytes, 0);
-    let p = input::number(&bytes, 8);
-    let q = input::number(&bytes, 16);
+    let w = wire::number(&bytes, 0);
+    let p = wire::number(&bytes, 8);
+    let q = wire::number(&bytes, 16);
     let b = pen::build(w, p, q);
     let mut out = [0u8; 266];
     let n = answer::encode(b, &mut out);

@@ -1,93 +1,91 @@
--- Each byte is what `byte` answered, of what `bits` answered.
+-- The bytes are those that `eight` answered, one after the other.
 use mathlib.Core.Path.{ap, _∙_}
 use mir.Syntax.{w64}
 use Rattle.integers.proofs.Machine.{par}
-use Rattle.extents.specs.Answer.{bitsOf}
+use Rattle.wire.specs.Write.{eightOf}
 use borrow.Author.Needs.{needs}
 use Rattle.extents.proofs.answer.columns.Statement.{statement}
 use Rattle.extents.proofs.answer.columns.Tie as tie
 
-bits-requires : tie.Need-bits-requires
-bits-requires c κs = search needs
+eight-requires : tie.Need-eight-requires
+eight-requires c κs = search needs
 
-bits-requires-2 : tie.Need-bits-requires-2
-bits-requires-2 c κs = search needs
+eight-requires-2 : tie.Need-eight-requires-2
+eight-requires-2 c κs = search needs
 
-byte-requires : tie.Need-byte-requires
-byte-requires c κs = search needs
+array-read-t8 : tie.Need-array-read-t8
+array-read-t8 c = search needs
 
-byte-requires-2 : tie.Need-byte-requires-2
-byte-requires-2 c κs = search needs
+array-read-t11 : tie.Need-array-read-t11
+array-read-t11 c = search needs
 
-byte-requires-3 : tie.Need-byte-requires-3
-byte-requires-3 c κs = search needs
+array-read-t14 : tie.Need-array-read-t14
+array-read-t14 c = search needs
 
-byte-requires-4 : tie.Need-byte-requires-4
-byte-requires-4 c κs = search needs
+array-read-t17 : tie.Need-array-read-t17
+array-read-t17 c = search needs
 
-byte-requires-5 : tie.Need-byte-requires-5
-byte-requires-5 c κs = search needs
+array-read-t20 : tie.Need-array-read-t20
+array-read-t20 c = search needs
 
-byte-requires-6 : tie.Need-byte-requires-6
-byte-requires-6 c κs = search needs
+array-read-t23 : tie.Need-array-read-t23
+array-read-t23 c = search needs
 
-byte-requires-7 : tie.Need-byte-requires-7
-byte-requires-7 c κs = search needs
+array-read-t26 : tie.Need-array-read-t26
+array-read-t26 c = search needs
 
-byte-requires-8 : tie.Need-byte-requires-8
-byte-requires-8 c κs = search needs
+array-read-t29 : tie.Need-array-read-t29
+array-read-t29 c = search needs
 
-byte-requires-9 : tie.Need-byte-requires-9
-byte-requires-9 c κs = search needs
+array-read-t32 : tie.Need-array-read-t32
+array-read-t32 c = search needs
 
-byte-requires-10 : tie.Need-byte-requires-10
-byte-requires-10 c κs = search needs
+array-read-t35 : tie.Need-array-read-t35
+array-read-t35 c = search needs
 
-byte-requires-11 : tie.Need-byte-requires-11
-byte-requires-11 c κs = search needs
+array-read-t38 : tie.Need-array-read-t38
+array-read-t38 c = search needs
 
-byte-requires-12 : tie.Need-byte-requires-12
-byte-requires-12 c κs = search needs
+array-read-t41 : tie.Need-array-read-t41
+array-read-t41 c = search needs
 
-byte-requires-13 : tie.Need-byte-requires-13
-byte-requires-13 c κs = search needs
+array-read-t44 : tie.Need-array-read-t44
+array-read-t44 c = search needs
 
-byte-requires-14 : tie.Need-byte-requires-14
-byte-requires-14 c κs = search needs
+array-read-t47 : tie.Need-array-read-t47
+array-read-t47 c = search needs
 
-byte-requires-15 : tie.Need-byte-requires-15
-byte-requires-15 c κs = search needs
+array-read-t50 : tie.Need-array-read-t50
+array-read-t50 c = search needs
 
-byte-requires-16 : tie.Need-byte-requires-16
-byte-requires-16 c κs = search needs
+array-read-t53 : tie.Need-array-read-t53
+array-read-t53 c = search needs
 
 returns : tie.Need-returns
 returns c =
-    let s = c .before .before .before .before .before .before .before .before .before .before .before .before .before .before .before .before .before .before in
-    let f = c .before .before .before .before .before .before .before .before .before .before .before .before .before .before .before .before .before .bits .ensures ∙ ap bitsOf (par {w = w64} (s .fits .first) .reads) in
-    let l = c .before .before .before .before .before .before .before .before .before .before .before .before .before .before .before .before .bits2 .ensures ∙ ap bitsOf (par {w = w64} (s .fits .last) .reads) in
-    rw (c .before .before .before .before .before .before .before .before .before .before .before .before .before .before .before .byte .ensures, c .before .before .before .before .before .before .before .before .before .before .before .before .before .before .byte2 .ensures, c .before .before .before .before .before .before .before .before .before .before .before .before .before .byte3 .ensures, c .before .before .before .before .before .before .before .before .before .before .before .before .byte4 .ensures, c .before .before .before .before .before .before .before .before .before .before .before .byte5 .ensures, c .before .before .before .before .before .before .before .before .before .before .byte6 .ensures, c .before .before .before .before .before .before .before .before .before .byte7 .ensures, c .before .before .before .before .before .before .before .before .byte8 .ensures, c .before .before .before .before .before .before .before .byte9 .ensures, c .before .before .before .before .before .before .byte10 .ensures, c .before .before .before .before .before .byte11 .ensures, c .before .before .before .before .byte12 .ensures, c .before .before .before .byte13 .ensures, c .before .before .byte14 .ensures, c .before .byte15 .ensures, c .byte16 .ensures, f, l)
+    let s = c .before .before in
+    rw (c .before .eight .ensures ∙ ap eightOf (par {w = w64} (s .fits .first) .reads), c .eight2 .ensures ∙ ap eightOf (par {w = w64} (s .fits .last) .reads))
 
 pub columns-spec : {M : Type 1} → statement M
 columns-spec =
     tie.close
     (tie.spec
-    bits-requires
-    bits-requires-2
-    byte-requires
-    byte-requires-2
-    byte-requires-3
-    byte-requires-4
-    byte-requires-5
-    byte-requires-6
-    byte-requires-7
-    byte-requires-8
-    byte-requires-9
-    byte-requires-10
-    byte-requires-11
-    byte-requires-12
-    byte-requires-13
-    byte-requires-14
-    byte-requires-15
-    byte-requires-16
+    eight-requires
+    eight-requires-2
+    array-read-t8
+    array-read-t11
+    array-read-t14
+    array-read-t17
+    array-read-t20
+    array-read-t23
+    array-read-t26
+    array-read-t29
+    array-read-t32
+    array-read-t35
+    array-read-t38
+    array-read-t41
+    array-read-t44
+    array-read-t47
+    array-read-t50
+    array-read-t53
     returns)
