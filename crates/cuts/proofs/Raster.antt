@@ -19,9 +19,9 @@ use Rattle.integers.proofs.Tests.{clash, and-false, and-both, le-true, le-iff, 
 use Rattle.pen.specs.Polygon.{Pt}
 use Rattle.stroke.specs.Sweep.{Seg, segments}
 use Rattle.stroke.specs.Extent.{Span, none, columns, extent}
-use Rattle.stroke.specs.Answer.{allowed, answered, extentOf}
-use Rattle.stroke.specs.declared.Extent.{Extent}
-use Rattle.stroke.specs.declared.Extent.the-variants as extent·
+use Rattle.extent.specs.Answer.{allowed, answered, extentOf}
+use Rattle.extent.specs.declared.Extent.{Extent}
+use Rattle.extent.specs.declared.Extent.the-variants as extent·
 use Rattle.stroke.specs.Runs.{inSpan, any, blackAt}
 use Rattle.cuts.specs.declared.cut.Cut.{Cut}
 use Rattle.cuts.specs.declared.cut.Cut.the-variants as cut·

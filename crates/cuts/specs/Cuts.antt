@@ -12,9 +12,9 @@ use Rattle.integers.specs.Compare.{minZ, maxZ}
 use Rattle.pen.specs.Polygon.{Pt}
 use Rattle.checks.specs.Checks.{isSize}
 use Rattle.stroke.specs.Sweep.{Seg, segments}
-use Rattle.stroke.specs.declared.Extent.{Extent}
-use Rattle.stroke.specs.declared.Extent.the-variants as extent·
-use Rattle.stroke.specs.Answer.{extentOf}
+use Rattle.extent.specs.declared.Extent.{Extent}
+use Rattle.extent.specs.declared.Extent.the-variants as extent·
+use Rattle.extent.specs.Answer.{extentOf}
 use Rattle.stroke.specs.Runs.{any}
 use Rattle.cuts.specs.declared.cut.Cut.{Cut}
 use Rattle.cuts.specs.declared.cut.Cut.the-variants as cut·

@@ -1,16 +1,16 @@
 // The segments of a path, and the columns of each in a row, cut to the raster.
 use crate::Touch;
+use extent::Extent;
 use integers::max;
 use integers::min;
-use stroke::Extent;
 ghost use mathlib.Core.Path.{_≡_};
 ghost use Prim.Native.Nat.{ℕ, _+_, _*_, _≤_, _<_};
 ghost use lib.ListN.{length, getD};
 ghost use lib.IntN.{pos};
 ghost use Rattle.pen.specs.Answer.{corners};
 ghost use Rattle.stroke.specs.Sweep.{Seg, segments, pathPoints};
-ghost use Rattle.stroke.specs.Answer.{seg};
-ghost use Rattle.stroke.specs.declared.Extent.the-variants as extent·;
+ghost use Rattle.extent.specs.Answer.{seg};
+ghost use Rattle.extent.specs.declared.Extent.the-variants as extent·;
 ghost use Rattle.cuts.specs.Cuts.{cutTo, cuts, touched, touchOf};
 
 // The columns of one segment within the raster, both included, or none.
@@ -87,7 +87,7 @@ pub fn cut_at<'a>(
 {
     let to = end_of(path, k);
     let from = 2 * k;
-    let e = stroke::extent_at(
+    let e = extent::extent_at(
         xs,
         ys,
         count,

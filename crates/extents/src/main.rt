@@ -6,10 +6,10 @@
 // nothing, or the byte 1 and the first and the last column, of eight bytes each.
 mod answer;
 
+use extent::Extent;
 use libc::STDIN_FILENO;
 use libc::STDOUT_FILENO;
 use pen::Pen;
-use stroke::Extent;
 
 // Writes what the segment of a record leaves in its row. A negative row reads as one far too large.
 fn write(s: &[u8], pen: Pen) -> bool {
@@ -18,7 +18,7 @@ fn write(s: &[u8], pen: Pen) -> bool {
     let bx = wire::signed(s, 32);
     let by = wire::signed(s, 36);
     let row = wire::number(s, 40);
-    let Extent::Columns(first, last) = stroke::extent_of(pen, ax, ay, bx, by, row) else {
+    let Extent::Columns(first, last) = extent::extent_of(pen, ax, ay, bx, by, row) else {
         let nothing = [0u8; 1];
         return io::write_all(STDOUT_FILENO, &nothing);
     };

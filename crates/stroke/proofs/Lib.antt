@@ -10,8 +10,6 @@
 --   Signs, Furthest, NearEdge, Rising  the black pixels of a middle row are those of the strip
 --   Level                              the black pixels of a middle column of a level path are those of the band
 --   WeightTheorems, Answers            theorems 4, 5 and 6; and line weight over the runs of row answers
---   Fractions, Narrow, Round           for the code: limits kept as fractions; one side's rule; the edges one after the other
---   Read, Bits, Answered               the corners that two arrays hold; signed numbers of its functions; the three answers
 --   Theorems                           all claims of specs/Theorems.antt, each under its name there
 pub mod Lists
 pub mod Signs
@@ -38,10 +36,4 @@ pub mod Rising
 pub mod Level
 pub mod WeightTheorems
 pub mod Answers
-pub mod Fractions
-pub mod Narrow
-pub mod Read
-pub mod Round
-pub mod Bits
-pub mod Answered
 pub mod Theorems

@@ -3,8 +3,6 @@ pub mod Sweep
 pub mod Sides
 pub mod Black
 pub mod Extent
-pub mod Answer
-pub mod Held
 pub mod Runs
 pub mod Weight
 pub mod Theorems

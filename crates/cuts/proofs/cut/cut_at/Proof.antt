@@ -1,7 +1,7 @@
 -- The segment's extent is that of the definition, and so is its cut.
-use Rattle.stroke.specs.Answer.{extentOf, seg}
-use Rattle.stroke.specs.declared.Extent.{Extent}
-use Rattle.stroke.specs.declared.Extent.the-variants as extent·
+use Rattle.extent.specs.Answer.{extentOf, seg}
+use Rattle.extent.specs.declared.Extent.{Extent}
+use Rattle.extent.specs.declared.Extent.the-variants as extent·
 use Rattle.cuts.specs.declared.cut.Cut.the-variants as cut·
 use Rattle.stroke.specs.Sweep.{pathPoints}
 use Rattle.cuts.specs.Cuts.{cutTo, extentIn, cuts}

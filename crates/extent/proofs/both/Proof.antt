@@ -1,0 +1,29 @@
+-- The conjunction, its first part first.
+use mathlib.Core.Path.{sym, ap, _∙_}
+use mir.Syntax.{w32}
+use Rattle.integers.proofs.Tests.{true-and, false-and}
+use Rattle.integers.proofs.Machine.{par}
+use Rattle.checks.specs.Checks.{inRange}
+use borrow.Author.Needs.{needs}
+use Rattle.extent.proofs.both.Statement.{statement}
+use Rattle.extent.proofs.both.Tie as tie
+
+in-range-requires : tie.Need-in-range-requires
+in-range-requires c κs = search needs
+
+in-range-requires-2 : tie.Need-in-range-requires-2
+in-range-requires-2 c κs = search needs
+
+returns : tie.Need-returns
+returns c =
+    let f = c .before .before .before .fits in
+    c .in-range2 .ensures ∙ ap inRange (par {w = w32} (f .y) .reads)
+    ∙ true-and _ _ (sym (ap inRange (par {w = w32} (f .x) .reads)) ∙ sym (c .before .before .in-range .ensures) ∙ c .before .if1 .taken)
+
+returns-2 : tie.Need-returns-2
+returns-2 c =
+    let f = c .before .before .fits in
+    c .if1 .left ∙ false-and _ _ (sym (ap inRange (par {w = w32} (f .x) .reads)) ∙ sym (c .before .in-range .ensures) ∙ c .if1 .left)
+
+pub both-spec : {M : Type 1} → statement M
+both-spec = tie.close (tie.spec in-range-requires in-range-requires-2 returns returns-2)

@@ -1,0 +1,90 @@
+-- Both tests of the definition, of the numbers that the bits are.
+use mathlib.Core.Path.{_≡_, sym, ap, _∙_}
+use mathlib.Core.List.{List}
+use Prim.Native.Nat.{_^_, _≤_}
+use lib.ListN.{length}
+use lib.IntN.{ℤ, pos, _+ℤ_, _-ℤ_, _*ℤ_}
+use lib.Signed.{leZ}
+use mir.Syntax.{w64}
+use mir.Val.{toZ}
+use denote.Ref.{now}
+use Rattle.integers.specs.Compare.{minZ, maxZ}
+use Rattle.integers.proofs.Tests.{true-and, false-and}
+use Rattle.integers.proofs.Machine.{Is, known, num, of-nat, mul, mul-fits, add, add-fits, sub, sub-fits, leZ-at}
+use Rattle.pen.specs.Laws.{reach}
+use Rattle.pen.specs.Answer.{corners}
+use Rattle.extent.proofs.Bits.{bits, _⊖_, _⊗_, row-place, greatest, least}
+use borrow.Author.Needs.{needs}
+use Rattle.extent.proofs.side.reached.Statement.{statement}
+use Rattle.extent.proofs.side.reached.Tie as tie
+
+far : (c : tie.After-reach) → Is w64 (pos 8 *ℤ c .reach .result) (bits (pos 8) ⊗ bits (c .reach .result)) 1024
+far c = mul (num (pos 8) tt) (known (c .reach .ensures .1) tt) tt
+
+-- the lesser and the greater y of the ends
+low : (c : tie.After-min) → let g = c .before .before .before .before .args .g in Is w64 (minZ (g .ay) (g .by)) (bits (c .min .result)) (2 ^ 18)
+low c = let n = c .before .before .before .before .pre .1 .0 in least (known (n .ay-small) tt) (known (n .by-small) tt) (c .min .ensures)
+
+high : (c : tie.After-max) → let g = c .before .before .before .before .before .before .before .before .args .g in Is w64 (maxZ (g .ay) (g .by)) (bits (c .max .result)) (2 ^ 18)
+high c = let n = c .before .before .before .before .before .before .before .before .pre .1 .0 in greatest (known (n .ay-small) tt) (known (n .by-small) tt) (c .max .ensures)
+
+-- the first test
+lower : (c : tie.After-min) (xs : List ℤ) → let a = c .before .before .before .before .args in a .n ≤ length xs →
+    leZ (toZ w64 (bits (c .min .result) ⊖ bits (pos 8) ⊗ bits (c .before .before .before .reach .result))) (toZ w64 (bits (pos 16) ⊗ a .row)) ≡
+    leZ (minZ (a .g .ay) (a .g .by) -ℤ pos 8 *ℤ reach (corners (a .n) xs (now (a .ys)))) (pos 16 *ℤ pos (a .row))
+lower c xs h =
+    let s = c .before .before .before .before in
+    let g = s .args .g in
+    leZ-at (sub (low c) (far (c .before .before .before)) tt) (row-place (s .pre .1 .1))
+    ∙ ap (λ (d : ℤ). leZ (minZ (g .ay) (g .by) -ℤ pos 8 *ℤ d) (pos 16 *ℤ pos (s .args .row))) (c .before .before .before .reach .ensures .0 xs h)
+
+reach-requires : tie.Need-reach-requires
+reach-requires c κs = search needs
+
+mul-far : tie.Need-mul-far
+mul-far c = mul-fits (num (pos 8) tt) (known (c .reach .ensures .1) tt) tt
+
+cast-at : tie.Need-cast-at
+cast-at c = search needs
+
+mul-at : tie.Need-mul-at
+mul-at c = mul-fits (num (pos 16) tt) (of-nat (c .before .args .row) (c .before .pre .1 .1) tt) tt
+
+min-requires : tie.Need-min-requires
+min-requires c κs = search needs
+
+sub-if1 : tie.Need-sub-if1
+sub-if1 c = sub-fits (low c) (far (c .before .before .before)) tt
+
+max-requires : tie.Need-max-requires
+max-requires c κs = search needs
+
+add-result : tie.Need-add-result
+add-result c = add-fits (high c) (far (c .before .before .before .before .before .before .before)) tt
+
+returns : tie.Need-returns
+returns c =
+    λ xs h.
+    let s = c .before .before .before .before .before .before .before .before in
+    let g = s .args .g in
+    leZ-at (row-place (s .pre .1 .1)) (add (high c) (far (c .before .before .before .before .before .before .before)) tt)
+    ∙ ap (λ (d : ℤ). leZ (pos 16 *ℤ pos (s .args .row)) (maxZ (g .ay) (g .by) +ℤ pos 8 *ℤ d)) (c .before .before .before .before .before .before .before .reach .ensures .0 xs h)
+    ∙ true-and _ _ (sym (lower (c .before .before .before .before) xs h) ∙ c .before .before .before .if1 .taken)
+
+returns-2 : tie.Need-returns-2
+returns-2 c = λ xs h. c .if1 .left ∙ false-and _ _ (sym (lower (c .before) xs h) ∙ c .if1 .left)
+
+pub reached-spec : {M : Type 1} → statement M
+reached-spec =
+    tie.close
+    (tie.spec
+    reach-requires
+    mul-far
+    cast-at
+    mul-at
+    min-requires
+    sub-if1
+    max-requires
+    add-result
+    returns
+    returns-2)

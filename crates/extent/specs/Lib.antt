@@ -1,0 +1,3 @@
+-- The answer; then what the code's structs hold.
+pub mod Answer
+pub mod Held

@@ -1,0 +1,153 @@
+// The sides of a segment's sweep: the pen's edges, each moved to the end that carries it further
+// out, and the two lines along the path that touch the pen.
+use crate::limit::Limits;
+use crate::limit::all;
+use crate::limit::narrow;
+use integers::max;
+use integers::min;
+ghost use mathlib.Core.Path.{_≡_};
+ghost use mathlib.Core.Bool.{cond};
+ghost use mathlib.Core.List.{List, map};
+ghost use Prim.Native.Nat.{_+_, _^_, _≤_};
+ghost use lib.Dec.{ltb};
+ghost use lib.IntN.{ℤ, pos};
+ghost use lib.ListN.{length};
+ghost use Rattle.integers.specs.Bound.{Abs};
+ghost use Rattle.pen.specs.Polygon.{pt};
+ghost use Rattle.pen.specs.Laws.{edge, edges, reach};
+ghost use Rattle.pen.specs.Answer.{corners};
+ghost use Rattle.stroke.specs.Sides.{moved, furthest, touching, pathSides, sides};
+ghost use Rattle.stroke.specs.Extent.{narrow, narrowed, reached};
+ghost use Rattle.extent.specs.Held.{left, start, Steady, Near, ends, Held};
+
+// The ends A and B of a segment, in sixteenths of a pixel.
+pub struct Ends {
+    pub ax: i64,
+    pub ay: i64,
+    pub bx: i64,
+    pub by: i64,
+}
+
+// A corner's coordinate in the numbers that the rest counts with.
+fn wide(x: i8) -> i64
+    ensures { λ r. ⌜ r ≡ x ⌝ ∗ ⌜ Abs r 128 ⌝ }
+{
+    x as i64
+}
+
+// The corner after corner i of n, which after the last is the first.
+fn next(i: usize, n: usize) -> usize
+    requires { ⌜ i + 1 ≤ n ⌝ }
+    ensures { λ r. ⌜ r ≡ cond (ltb (i + 1) n) (i + 1) 0 ⌝ }
+{
+    if i + 1 < n { i + 1 } else { 0 }
+}
+
+// The edge from the corner P to the corner Q. Its normal is the direction turned right, and its
+// line stands at the end where it lies further out.
+fn edge(s: Limits, g: Ends, row: u64, px: i64, py: i64, qx: i64, qy: i64) -> Limits
+    requires { ⌜ Steady s ⌝ ∗ ⌜ Near g ⌝ ∗ ⌜ row ≤ 16383 ⌝ ∗ ⌜ Abs px 128 × Abs py 128 × Abs qx 128 × Abs qy 128 ⌝ }
+    ensures { λ r. ⌜ left r ≡ narrow (pos row) (moved (ends g) (edge (pt px py) (pt qx qy))) (left s) ⌝ ∗ ⌜ Steady r ⌝ }
+{
+    let a = qy - py;
+    let b = px - qx;
+    let out = max(a * g.ax + b * g.ay, a * g.bx + b * g.by);
+    narrow(s, a, b, 8 * (a * px + b * py) + out, row)
+}
+
+// All edges, counterclockwise from corner 0.
+fn edges<'a>(s: Limits, xs: &'a [i8], ys: &'a [i8], n: usize, g: Ends, row: u64) -> Limits
+    requires { ⌜ Steady s ⌝ ∗ ⌜ Held n (now xs) (now ys) ⌝ ∗ ⌜ Near g ⌝ ∗ ⌜ row ≤ 16383 ⌝ }
+    ensures { λ r. ⌜ left r ≡ narrowed (pos row) (map (moved (ends g)) (edges (corners n (now (xs .entry)) (now (ys .entry))))) (left s) ⌝ ∗ ⌜ Steady r ⌝ }
+{
+    let mut r = s;
+    let mut i = 0;
+    while i < n {
+        let k = next(i, n);
+        let px = wide(xs[i]);
+        let py = wide(ys[i]);
+        let qx = wide(xs[k]);
+        let qy = wide(ys[k]);
+        r = edge(r, g, row, px, py, qx, qy);
+        i += 1;
+    }
+    r
+}
+
+// The greatest a x + b y over the corners, and 0.
+fn furthest<'a>(xs: &'a [i8], ys: &'a [i8], n: usize, a: i64, b: i64) -> i64
+    requires { ⌜ Held n (now xs) (now ys) ⌝ ∗ ⌜ Abs a (2 ^ 19) ⌝ ∗ ⌜ Abs b (2 ^ 19) ⌝ }
+    ensures { λ r. ⌜ r ≡ furthest a b (corners n (now (xs .entry)) (now (ys .entry))) ⌝ ∗ ⌜ Abs r (2 ^ 27) ⌝ }
+{
+    let mut m = 0;
+    let mut i = n;
+    while i > 0 {
+        i -= 1;
+        let x = wide(xs[i]);
+        let y = wide(ys[i]);
+        m = max(a * x + b * y, m);
+    }
+    m
+}
+
+// The line with the normal (a, b) through A, moved out to touch the pen.
+fn touch<'a>(
+    s: Limits,
+    xs: &'a [i8],
+    ys: &'a [i8],
+    n: usize,
+    g: Ends,
+    a: i64,
+    b: i64,
+    row: u64,
+) -> Limits
+    requires { ⌜ Steady s ⌝ ∗ ⌜ Held n (now xs) (now ys) ⌝ ∗ ⌜ Near g ⌝ ∗ ⌜ Abs a (2 ^ 19) × Abs b (2 ^ 19) ⌝ ∗ ⌜ row ≤ 16383 ⌝ }
+    ensures { λ r. ⌜ left r ≡ narrow (pos row) (touching (corners n (now (xs .entry)) (now (ys .entry))) (pt (g .ax) (g .ay)) a b) (left s) ⌝ ∗ ⌜ Steady r ⌝ }
+{
+    let out = furthest(xs, ys, n, a, b);
+    narrow(s, a, b, 8 * out + (a * g.ax + b * g.ay), row)
+}
+
+// The two lines along the path; a dot has none.
+fn along<'a>(s: Limits, xs: &'a [i8], ys: &'a [i8], n: usize, g: Ends, row: u64) -> Limits
+    requires { ⌜ Steady s ⌝ ∗ ⌜ Held n (now xs) (now ys) ⌝ ∗ ⌜ Near g ⌝ ∗ ⌜ row ≤ 16383 ⌝ }
+    ensures { λ r. ⌜ left r ≡ narrowed (pos row) (pathSides (corners n (now (xs .entry)) (now (ys .entry))) (ends g)) (left s) ⌝ ∗ ⌜ Steady r ⌝ }
+{
+    if g.ax == g.bx && g.ay == g.by {
+        return s;
+    }
+    let u = g.bx - g.ax;
+    let v = g.by - g.ay;
+    let right = touch(s, xs, ys, n, g, v, -u, row);
+    touch(right, xs, ys, n, g, -v, u, row)
+}
+
+// What all sides leave.
+pub fn narrowed<'a>(xs: &'a [i8], ys: &'a [i8], n: usize, g: Ends, row: u64) -> Limits
+    requires { ⌜ Held n (now xs) (now ys) ⌝ ∗ ⌜ Near g ⌝ ∗ ⌜ row ≤ 16383 ⌝ }
+    ensures { λ r. ⌜ left r ≡ narrowed (pos row) (sides (corners n (now (xs .entry)) (now (ys .entry))) (ends g)) start ⌝ ∗ ⌜ Steady r ⌝ }
+{
+    let s = edges(all(), xs, ys, n, g, row);
+    along(s, xs, ys, n, g, row)
+}
+
+// How far up and down the pen reaches, whatever its corners' x are: corner 0 is the lowest.
+fn reach(ys: &[i8], n: usize) -> i64
+    requires { do ⌜ n ≤ (← ⟦ys.len()⟧) ⌝ }
+    ensures { λ r. ⌜ ((xs : List ℤ) → n ≤ length xs → r ≡ reach (corners n xs (now (ys .entry)))) ⌝ ∗ ⌜ Abs r 128 ⌝ }
+{
+    if n == 0 {
+        return 0;
+    }
+    -wide(ys[0])
+}
+
+// Whether the row is within the segment's reach.
+pub fn reached(ys: &[i8], n: usize, g: Ends, row: u64) -> bool
+    requires { do ⌜ n ≤ (← ⟦ys.len()⟧) ⌝ ∗ ⌜ Near g ⌝ ∗ ⌜ row ≤ 16383 ⌝ }
+    ensures { λ r. ⌜ ((xs : List ℤ) → n ≤ length xs → r ≡ reached (corners n xs (now (ys .entry))) (ends g) (pos row)) ⌝ }
+{
+    let far = 8 * reach(ys, n);
+    let at = 16 * (row as i64);
+    min(g.ay, g.by) - far <= at && at <= max(g.ay, g.by) + far
+}
