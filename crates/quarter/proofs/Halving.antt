@@ -1,59 +1,62 @@
--- The search by halves, as a loop carries it: `half` is what remains of the interval, halved, and the search from `m` on still gives the answer.
-use Prim.Native.Nat.{ℕ, zero, suc, _+_, _*_, _/_, _^_, _≤_, _<_}
-use mathlib.Core.Path.{_≡_, refl, sym, subst, _∙_}
+-- The search by halves: one try keeps the near root, brought into the interval, as it was.
+use Prim.Native.Nat.{ℕ, suc, _*_, _-_, _≤_, _<_, min, max}
+use mathlib.Core.Path.{_≡_, refl}
 use mathlib.Core.Bool.{Bool, true, false}
-use native.Mathlib.Nat.{pow-succ'}
+use native.Mathlib.Nat.{mul-le-mul, mul-le-mul-left}
 use native.Mathlib.Omega.{arith}
+use native.Mathlib.Decide.{decLe}
+use borrow.Author.Tests.{leb-true, leb-false}
 use lib.Dec.{leb}
-use lib.Pow.{pow-pos}
-use Rattle.quarter.specs.NearRoot.{tried, bisect}
+use Rattle.setting.specs.declared.Setting.{Setting}
+use Rattle.setting.specs.Setting.{Taken}
+use Rattle.quarter.specs.declared.root.Interval.{Interval}
+use Rattle.quarter.specs.NearRoot.{norm, lower, nearRoot}
+use Rattle.quarter.specs.Held.{middle, halved}
+use Rattle.quarter.proofs.NearRoot.{nearRoot-found}
 
-pub record Halving (f : ℕ → ℕ) (t answer m half : ℕ) : Type 0 where
-  pub k : ℕ
-  pub halved : half ≡ 2 ^ k / 2
-  pub range : m + 2 ^ k ≤ 4096
-  pub leads : bisect f t k m ≡ answer
+-- the bound rises with the value
+lower-rises : (σ : Setting) (m n : ℕ) → m ≤ n → lower σ m ≤ lower σ n
+unfolding lower
+lower-rises σ m n h = let o : 2 * m - 1 ≤ 2 * n - 1 = omega arith in mul-le-mul-left (64 * (σ .q * σ .q)) (mul-le-mul o o)
 
-half-of : (k : ℕ) → 2 ^ suc k / 2 ≡ 2 ^ k
-half-of k = omega (arith, pow-succ' 2 k)
+-- m brought into low..high
+abbrev pub brought : ℕ → ℕ → ℕ → ℕ
+brought low high m = max low (min high m)
 
-tried-most : (f : ℕ → ℕ) (t m h : ℕ) → tried f t m h ≤ m + h
-unfolding tried
-tried-most f t m h = go (leb (f (m + h)) t)
-  where
-    go : (b : Bool) → (elim b as (λ _. ℕ) [ true ↦ m + h | false ↦ m ]) ≤ m + h
-    go true = omega arith
-    go false = omega arith
+module _ (σ : Setting) (t : Taken σ) (u v : ℕ) (hu : u ≤ 64) (hv : v ≤ 64) where
+  square : ℕ
+  square = σ .w * σ .w * norm σ u v
 
--- the middle value is in the interval
-pub middle : {f : ℕ → ℕ} {t answer m half : ℕ} → Halving f t answer m half → 1 ≤ half → m + half ≤ 4096
-middle {m = m} {half = half} h p = go (h .k) (h .halved) (h .range)
-  where
-    go : (k : ℕ) → half ≡ 2 ^ k / 2 → m + 2 ^ k ≤ 4096 → m + half ≤ 4096
-    go zero e r = omega arith
-    go (suc k) e r = omega (arith, half-of k, pow-succ' 2 k)
+  -- what a try says of the near root
+  tried-low : (m : ℕ) → lower σ m ≤ square → m ≤ nearRoot σ u v
+  unfolding square
+  tried-low m h = elim (decLe m (nearRoot σ u v)) [
+    | yes k ↦ k
+    | no k ↦ absurd (omega (arith, h, nearRoot-found σ t u v hu hv .1, lower-rises σ (suc (nearRoot σ u v)) m (omega arith)))
+  ]
 
--- one try keeps it
-pub halve : {f : ℕ → ℕ} {t answer m half : ℕ} → Halving f t answer m half → 1 ≤ half → Halving f t answer (tried f t m half) (half / 2)
-unfolding bisect
-halve {f} {t} {answer} {m} {half} h p = go (h .k) (h .halved) (h .range) (h .leads)
-  where
-    go : (k : ℕ) → half ≡ 2 ^ k / 2 → m + 2 ^ k ≤ 4096 → bisect f t k m ≡ answer → Halving f t answer (tried f t m half) (half / 2)
-    go zero e r l = absurd (omega arith)
-    go (suc k) e r l =
-        let e2 : half ≡ 2 ^ k = e ∙ half-of k in
-        record {
-          k = k;
-          halved = omega arith;
-          range = omega (arith, tried-most f t m half, pow-succ' 2 k);
-          leads = subst (λ (x : ℕ). bisect f t k (tried f t m x) ≡ answer) (sym e2) l;
-        }
+  tried-high : (m : ℕ) → square < lower σ m → nearRoot σ u v < m
+  unfolding square
+  tried-high m h = elim (decLe m (nearRoot σ u v)) [
+    | yes k ↦ absurd (omega (arith, h, nearRoot-found σ t u v hu hv .0, lower-rises σ m (nearRoot σ u v) k))
+    | no k ↦ omega arith
+  ]
 
--- at the end the search has the answer
-pub found : {f : ℕ → ℕ} {t answer m half : ℕ} → Halving f t answer m half → half ≡ 0 → m ≡ answer
-unfolding bisect
-found {f} {t} {answer} {m} {half} h z = go (h .k) (h .halved) (h .leads)
-  where
-    go : (k : ℕ) → half ≡ 2 ^ k / 2 → bisect f t k m ≡ answer → m ≡ answer
-    go zero e l = l
-    go (suc k) e l = absurd (omega (arith, half-of k, pow-pos k))
+  -- one try: the interval is shorter, lies within what it was, and brings the near root to the same number
+  pub record Kept (i r : Interval) : Type 0 where
+    pub ordered : r .low ≤ r .high
+    pub high : r .high ≤ i .high
+    pub shorter : r .high - r .low < i .high - i .low
+    pub same : brought (r .low) (r .high) (nearRoot σ u v) ≡ brought (i .low) (i .high) (nearRoot σ u v)
+
+  pub halved-keeps : (i : Interval) {r : Interval} → i .low < i .high → r ≡ halved (lower σ) (σ .w * σ .w * norm σ u v) i → Kept i r
+  unfolding halved square
+  halved-keeps i h e = rw e (go (leb (lower σ (middle i)) square) refl)
+    where
+      go : (b : Bool) → leb (lower σ (middle i)) square ≡ b → Kept i (elim b as (λ _. Interval) [ true ↦ record { low = middle i; high = i .high } | false ↦ record { low = i .low; high = middle i - 1 } ])
+      go true q = let k = tried-low (middle i) (leb-true _ _ q) in record { ordered = omega arith; high = omega arith; shorter = omega arith; same = omega arith }
+      go false q = let k = tried-high (middle i) (leb-false _ _ q) in record { ordered = omega arith; high = omega arith; shorter = omega arith; same = omega arith }
+
+-- what the cut is by the near root that was brought between the offsets less the shorter count and the offsets
+pub by-brought : (whole shorter m : ℕ) → whole - brought (whole - shorter) whole m ≡ min shorter (whole - m)
+by-brought whole shorter m = omega arith

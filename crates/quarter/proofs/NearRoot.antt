@@ -63,6 +63,11 @@ module _ (σ : Setting) (t : Taken σ) (u v : ℕ) where
   unfolding lower
   lower-zero g = omega arith
 
+  -- it is where the bound passes the square
+  pub nearRoot-found : u ≤ 64 → v ≤ 64 → (lower σ (nearRoot σ u v) ≤ σ .w * σ .w * norm σ u v) × (σ .w * σ .w * norm σ u v < lower σ (suc (nearRoot σ u v)))
+  unfolding nearRoot
+  nearRoot-found hu hv = let f = bisect-ok (lower σ) (σ .w * σ .w * norm σ u v) 12 0 (lower-zero _) (scaled-high hu hv) in (f .low, f .high)
+
   -- the near root is at least 1
   positive-of : (m g : ℕ) → lower σ 1 ≤ g → g < lower σ (suc m) → 1 ≤ m
   positive-of zero g a b = omega arith

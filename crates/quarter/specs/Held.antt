@@ -1,6 +1,8 @@
 -- What the code's structs hold, in the words of the definitions. These are asked and promised inside the crate only; no promise to its callers is made
 -- of them.
-use Prim.Native.Nat.{ℕ, _+_, _≤_, _<_}
+use Prim.Native.Nat.{ℕ, _+_, _-_, _/_, _≤_, _<_}
+use mathlib.Core.Bool.{true, false}
+use lib.Dec.{leb}
 use mathlib.Core.Path.{_≡_}
 use mathlib.Core.Logic.{_⊎_}
 use lib.ListN.{length, drop, getD, set}
@@ -8,6 +10,7 @@ use lib.IntN.{ℤ, pos, negℤ}
 use Rattle.setting.specs.declared.Setting.{Setting}
 use Rattle.quarter.specs.declared.Edge.{Edge}
 use Rattle.quarter.specs.declared.Work.{Work}
+use Rattle.quarter.specs.declared.root.Interval.{Interval}
 use Rattle.quarter.specs.declared.Quarter.{Quarter}
 use Rattle.setting.specs.Setting.{Taken}
 use Rattle.quarter.specs.Cutting.{State, step, put, on}
@@ -54,3 +57,10 @@ pub record Advanced (σ : Setting) (t : Work) (q : Quarter) (t′ : Work) (q′ 
   pub stacked : Stacked t′
   pub stepped :
       ((step σ (state t) ≡ put (state t′)) × (q′ ≡ stored q (pos (t .x)) (negℤ (pos (t .y))))) ⊎ ((step σ (state t) ≡ on (state t′)) × (q′ ≡ q))
+
+-- the interval in which the near root is sought, after one try at its middle: f is low enough there, or it is not
+abbrev pub middle : Interval → ℕ
+middle i = (i .low + i .high + 1) / 2
+
+unfoldable pub halved : (ℕ → ℕ) → ℕ → Interval → Interval
+halved f t i = elim (leb (f (middle i)) t) [ true ↦ record { low = middle i; high = i .high } | false ↦ record { low = i .low; high = middle i - 1 } ]

@@ -34,13 +34,10 @@ pub fn amount(s: Setting, l: Edge, r: Edge) -> u64
         return 0;
     }
     let shorter = least(l.l2, r.l1);
-    if shorter == 0 {
-        return 0;
-    }
-    least(
-        shorter,
-        minus(l.c + r.c, near_root(s, l.u + r.u, l.v + r.v)),
-    )
+    let whole = l.c + r.c;
+    // A root further down than the shorter count allows, or past the offsets, is as good as theirs.
+    let root = near_root(s, l.u + r.u, l.v + r.v, minus(whole, shorter), whole);
+    whole - root
 }
 
 // Step 4: how far after its start, at the abscissa x, the retained point of a new edge lies, which

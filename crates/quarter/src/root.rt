@@ -1,9 +1,10 @@
 // The near root of a direction, by halving the interval.
 use setting::Setting;
 ghost use mathlib.Core.Path.{_≡_};
-ghost use Prim.Native.Nat.{_+_, _≤_};
+ghost use Prim.Native.Nat.{_≤_, _<_, min, max};
 ghost use Rattle.setting.specs.Setting.{Taken};
-ghost use Rattle.quarter.specs.NearRoot.{norm, nearRoot, lower, tried};
+ghost use Rattle.quarter.specs.NearRoot.{norm, nearRoot, lower};
+ghost use Rattle.quarter.specs.Held.{halved};
 
 // p²v² + q²u²
 pub fn norm(s: Setting, u: u64, v: u64) -> u64
@@ -13,31 +14,41 @@ pub fn norm(s: Setting, u: u64, v: u64) -> u64
     s.p * s.p * (v * v) + s.q * s.q * (u * u)
 }
 
-// One try: the middle value where the square at it is low enough, else the value before.
-fn tried(s: Setting, square: u64, m: u64, half: u64) -> u64
-    requires { ⌜ Taken s ⌝ ∗ ⌜ 1 ≤ half ⌝ ∗ ⌜ m + half ≤ 4096 ⌝ }
-    ensures { λ r. ⌜ r ≡ tried (lower s) square m half ⌝ }
+// What is left of the interval in which the near root is sought, both ends included.
+pub struct Interval {
+    pub low: u64,
+    pub high: u64,
+}
+
+// One try: the near root is at the middle value or after it where the square there is low enough,
+// and otherwise before it.
+fn halved(s: Setting, square: u64, i: Interval) -> Interval
+    requires { ⌜ Taken s ⌝ ∗ ⌜ i .low < i .high ⌝ ∗ ⌜ i .high ≤ 8192 ⌝ }
+    ensures { λ r. ⌜ r ≡ halved (lower s) square i ⌝ }
 {
-    let middle = m + half;
+    let middle = (i.low + i.high + 1) / 2;
     let odd = 2 * middle - 1;
     if 64 * (s.q * s.q) * (odd * odd) <= square {
-        middle
-    } else {
-        m
+        return Interval {
+            low: middle,
+            high: i.high,
+        };
+    }
+    Interval {
+        low: i.low,
+        high: middle - 1,
     }
 }
 
-// The near root of (u, v): twelve middle values are tried, so it is found below 4096.
-pub fn near_root(s: Setting, u: u64, v: u64) -> u64
-    requires { ⌜ Taken s ⌝ ∗ ⌜ u ≤ 64 ⌝ ∗ ⌜ v ≤ 64 ⌝ }
-    ensures { λ r. ⌜ r ≡ nearRoot s u v ⌝ }
+// The near root of (u, v), brought into low..high: the interval is halved until one value is left.
+pub fn near_root(s: Setting, u: u64, v: u64, low: u64, high: u64) -> u64
+    requires { ⌜ Taken s ⌝ ∗ ⌜ u ≤ 64 ⌝ ∗ ⌜ v ≤ 64 ⌝ ∗ ⌜ low ≤ high ⌝ ∗ ⌜ high ≤ 8192 ⌝ }
+    ensures { λ r. ⌜ r ≡ max low (min high (nearRoot s u v)) ⌝ }
 {
     let square = s.w * s.w * norm(s, u, v);
-    let mut m: u64 = 0;
-    let mut half: u64 = 2048;
-    while 0 < half {
-        m = tried(s, square, m, half);
-        half = half / 2;
+    let mut i = Interval { low, high };
+    while i.low < i.high {
+        i = halved(s, square, i);
     }
-    m
+    i.low
 }

@@ -1,67 +1,50 @@
--- The loop carries `Halving`: what is left of the interval is halved with each try.
-use Prim.Native.Nat.{_/_}
-use Rattle.quarter.specs.NearRoot.{tried}
-use mathlib.Core.Path.{sym, subst, _∙_}
-use Prim.Native.Nat.{ℕ}
-use Rattle.quarter.proofs.Halving.{Halving, middle, halve, found}
-use Rattle.quarter.proofs.Most.{fit}
-use Rattle.quarter.specs.NearRoot.{norm, lower, nearRoot, bisect}
-use Rattle.setting.specs.Setting.{Taken}
-use native.Mathlib.Omega.{arith}
+-- Each try keeps the near root, brought into the interval; where one value is left, that is it.
+use mathlib.Core.Path.{_≡_, refl, ap, _∙_}
+use Prim.Native.Nat.{ℕ, _*_, _-_, _≤_}
 use native.Mathlib.Nat.{mul-le-mul}
-use Prim.Native.Nat.{_*_, _≤_}
-use mathlib.Core.Path.{_≡_, refl, ap}
+use native.Mathlib.Omega.{arith}
+use Rattle.quarter.specs.declared.root.Interval.{Interval}
+use Rattle.quarter.specs.Held.{halved}
+use Rattle.quarter.specs.NearRoot.{norm, lower, nearRoot}
+use Rattle.quarter.proofs.Most.{fit}
+use Rattle.quarter.proofs.Halving.{brought, halved-keeps}
 use Rattle.quarter.proofs.root.near_root.Statement.{statement}
 use Rattle.quarter.proofs.root.near_root.Tie as tie
-use Rattle.quarter.proofs.root.near_root.Reads as reads
-use Rattle.quarter.proofs.root.near_root.Lts as lts
+use Rattle.quarter.proofs.root.halved.Reads as halved-reads
 use Rattle.quarter.proofs.root.norm.Reads as norm-reads
-use Rattle.quarter.proofs.root.tried.Reads as tried-reads
 
 abbrev Inv-loop : tie.InvT-loop
-Inv-loop s u v square m₀ half₀ m half = Taken s × (square ≡ s .w * s .w * norm s u v) × Halving (lower s) (s .w * s .w * norm s u v) (nearRoot s u v) m half
+Inv-loop s u v low high square i₀ i =
+    (square ≡ s .w * s .w * norm s u v) × (i .low ≤ i .high) × (i .high ≤ 8192) × (brought (i .low) (i .high) (nearRoot s u v) ≡ brought low high (nearRoot s u v))
 
 abbrev μ-loop : tie.MeasureT-loop
-μ-loop s u v square m₀ half₀ m half = half
+μ-loop s u v low high square i₀ i = i .high - i .low
 
--- src/root.rt:35:18
 mul-square : tie.Need-mul-square Inv-loop μ-loop
 mul-square c = let t = c .before .pre .0 in fit (mul-le-mul (t .w-high) (t .w-high)) tt
 
--- src/root.rt:35:30
 norm-requires : tie.Need-norm-requires Inv-loop μ-loop
-norm-requires c κs = c .before .pre
+norm-requires c κs = let p = c .before .pre in (p .0, (p .1 .0, p .1 .1 .0))
 
--- src/root.rt:35:18
 mul-square-2 : tie.Need-mul-square-2 Inv-loop μ-loop
 mul-square-2 c = let t = c .before .before .pre .0 in fit (mul-le-mul (mul-le-mul (t .w-high) (t .w-high)) (c .norm .ensures .1)) tt
 
--- src/root.rt:38:5
 loop-holds : tie.Need-loop-holds Inv-loop μ-loop
-unfolding nearRoot
-loop-holds c = let s = c .before .before .args .s in (c .before .before .pre .0, ap (λ (n : ℕ). s .w * s .w * n) (c .norm .ensures .0), record { k = 12; halved = refl; range = omega arith; leads = refl })
+loop-holds c = let s = c .before .before .args .s in let p = c .before .before .pre .1 .1 .1 in (ap (λ (n : ℕ). s .w * s .w * n) (c .norm .ensures .0), p .0, p .1, refl)
 
--- src/root.rt:39:9
-tried-requires : tie.Need-tried-requires Inv-loop μ-loop
-tried-requires c κs = (c .before .loop .inv .0, (c .loop-test .taken, middle (c .before .loop .inv .2) (c .loop-test .taken)))
+halved-requires : tie.Need-halved-requires Inv-loop μ-loop
+halved-requires c κs = let i = c .before .before .loop .inv in (c .before .before .before .before .before .pre .0, (c .if1 .taken, i .2))
 
--- src/root.rt:38:5
 loop-less : tie.Need-loop-less Inv-loop μ-loop
-loop-less c = let p = c .before .loop-test .taken in omega arith
+loop-less c = let k = halved-keeps (c .before .before .before .before .before .before .args .s) (c .before .before .before .before .before .before .pre .0) (c .before .before .before .before .before .before .args .u) (c .before .before .before .before .before .before .args .v) (c .before .before .before .before .before .before .pre .1 .0) (c .before .before .before .before .before .before .pre .1 .1 .0) (c .before .before .before .loop .i) (c .before .if1 .taken) (c .halved .ensures ∙ ap (λ (q : ℕ). halved (lower (c .before .before .before .before .before .before .args .s)) q (c .before .before .before .loop .i)) (c .before .before .before .loop .inv .0)) in k .shorter
 
--- src/root.rt:38:5
 loop-again : tie.Need-loop-again Inv-loop μ-loop
 loop-again c =
-    let i = c .before .before .loop in
-    let a = c .before .before .before .before .before .args in
-    let s = a .s in
-    let t : ℕ = s .w * s .w * norm s (a .u) (a .v) in
-    let e = c .tried .ensures ∙ ap (λ (q : ℕ). tried (lower s) q (i .m) (i .half)) (i .inv .1) in
-    (i .inv .0, i .inv .1, subst (λ (m : ℕ). Halving (lower s) t (nearRoot s (a .u) (a .v)) m (i .half / 2)) (sym e) (halve (i .inv .2) (c .before .loop-test .taken)))
+    let k = halved-keeps (c .before .before .before .before .before .before .args .s) (c .before .before .before .before .before .before .pre .0) (c .before .before .before .before .before .before .args .u) (c .before .before .before .before .before .before .args .v) (c .before .before .before .before .before .before .pre .1 .0) (c .before .before .before .before .before .before .pre .1 .1 .0) (c .before .before .before .loop .i) (c .before .if1 .taken) (c .halved .ensures ∙ ap (λ (q : ℕ). halved (lower (c .before .before .before .before .before .before .args .s)) q (c .before .before .before .loop .i)) (c .before .before .before .loop .inv .0)) in
+    (c .before .before .before .loop .inv .0, k .ordered, omega (arith, k .high, c .before .before .before .loop .inv .2), k .same ∙ c .before .before .before .loop .inv .3)
 
--- src/root.rt:31:1
 returns : tie.Need-returns Inv-loop μ-loop
-returns c = found (c .before .loop .inv .2) (omega (arith, c .loop-test .left))
+returns c = omega (arith, c .if1 .left, c .before .before .loop .inv .1, c .before .before .loop .inv .3)
 
 pub near-root-spec : {M : Type 1} → statement M
 near-root-spec =
@@ -73,7 +56,7 @@ near-root-spec =
     norm-requires
     mul-square-2
     loop-holds
-    tried-requires
+    halved-requires
     loop-less
     loop-again
     returns)
