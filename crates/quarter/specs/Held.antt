@@ -1,34 +1,37 @@
 -- What the code's structs hold, in the words of the definitions. These are asked and promised inside the crate only; no promise to its callers is made
 -- of them.
-use Prim.Native.Nat.{ℕ, _+_, _-_, _/_, _≤_, _<_}
+use Prim.Native.Nat.{ℕ, zero, suc, _+_, _-_, _/_, _≤_}
 use mathlib.Core.Bool.{true, false}
 use lib.Dec.{leb}
 use mathlib.Core.Path.{_≡_}
-use mathlib.Core.Logic.{_⊎_}
-use lib.ListN.{length, drop, getD, set}
+use mathlib.Core.List.{List, _∷_}
+use lib.ListN.{set}
 use lib.IntN.{ℤ, pos, negℤ}
 use Rattle.setting.specs.declared.Setting.{Setting}
 use Rattle.quarter.specs.declared.Edge.{Edge}
 use Rattle.quarter.specs.declared.Work.{Work}
 use Rattle.quarter.specs.declared.root.Interval.{Interval}
 use Rattle.quarter.specs.declared.Quarter.{Quarter}
-use Rattle.setting.specs.Setting.{Taken}
-use Rattle.quarter.specs.Cutting.{State, step, put, on}
-use Rattle.quarter.specs.Moment.{Small, Cuttable, Ready}
+use Rattle.quarter.specs.Cutting.{State, Step, put, on, act}
+use Rattle.quarter.specs.Moment.{Small, Cuttable}
 
--- the edges after the corner are those from `top` to the array's end
-abbrev pub state : Work → State
-state t = record { x = t .x; y = t .y; before = t .before; after = drop (t .top) (t .after) }
+-- m edges of two, and those that follow
+abbrev pub front : {A : Type 0} → ℕ → A → A → List A → List A
+front zero new last rest = rest
+front (suc zero) new last rest = last ∷ rest
+front (suc (suc m)) new last rest = new ∷ last ∷ rest
 
--- the stack lies in its array
-pub record Stacked (t : Work) : Type 0 where
-  pub top-most : t .top ≤ 33
-  pub long : length (t .after) ≡ 33
+-- the edges after the corner are those in the place of the one that was there, and the rest
+abbrev pub state : Work → List Edge → State
+state t rest = record { x = t .x; y = t .y; before = t .before; after = front (t .more) (t .new) (t .last) rest }
+
+-- n is what a step leads to, whatever edges follow
+pub record Leads (n : Work) (to : List Edge → State) : Type 0 where
+  pub few : n .more ≤ 2
+  pub is : (rest : List Edge) → state n rest ≡ to rest
 
 -- the corner can be cut by d, r being the edge after it
 pub record Room (t : Work) (r : Edge) (d : ℕ) : Type 0 where
-  pub in-array : t .top < 33
-  pub long : length (t .after) ≡ 33
   pub x-small : t .x ≤ 32
   pub y-small : t .y ≤ 32
   pub before : Small (t .before)
@@ -36,27 +39,22 @@ pub record Room (t : Work) (r : Edge) (d : ℕ) : Type 0 where
   pub rightward : 1 ≤ t .before .u
   pub cuttable : Cuttable (t .x) (t .y) d (t .before) r
 
--- a corner more
+-- a corner more; it is put out where the amount is 0
 abbrev pub stored : Quarter → ℤ → ℤ → Quarter
 stored q a b = record { count = q .count + 1; x = set (q .x) (q .count) a; y = set (q .y) (q .count) b }
 
--- the edge after the corner
-abbrev pub topEdge : Work → Edge
-topEdge t = getD (t .after) (t .top) (record { u = 0; v = 0; c = 0; l1 = 0; l2 = 0 })
+abbrev pub putOut : ℕ → Quarter → ℤ → ℤ → Quarter
+putOut zero q a b = stored q a b
+putOut (suc d) q a b = q
 
--- there is a corner, its next edge is ready, and there is a place for it
-pub record Advancing (σ : Setting) (t : Work) (q : Quarter) : Type 0 where
-  pub taken : Taken σ
-  pub in-array : t .top < 33
-  pub long : length (t .after) ≡ 33
-  pub ready : Ready σ (state t) (topEdge t)
-  pub place : q .count < 33
+abbrev pub outcome : ℕ → State → Step
+outcome zero t = put t
+outcome (suc d) t = on t
 
--- one round: the corner is put out, or cut
-pub record Advanced (σ : Setting) (t : Work) (q : Quarter) (t′ : Work) (q′ : Quarter) : Type 0 where
-  pub stacked : Stacked t′
-  pub stepped :
-      ((step σ (state t) ≡ put (state t′)) × (q′ ≡ stored q (pos (t .x)) (negℤ (pos (t .y))))) ⊎ ((step σ (state t) ≡ on (state t′)) × (q′ ≡ q))
+-- one round by the amount d: the corner is put out, or cut
+pub record Stepped (σ : Setting) (t : Work) (r : Edge) (d : ℕ) (n : Work) : Type 0 where
+  pub few : n .more ≤ 2
+  pub is : (rest : List Edge) → act d σ (t .x) (t .y) (t .before) r rest ≡ outcome d (state n rest)
 
 -- the interval in which the near root is sought, after one try at its middle: f is low enough there, or it is not
 abbrev pub middle : Interval → ℕ

@@ -3,25 +3,23 @@ use crate::Edge;
 use crate::Quarter;
 use crate::Work;
 use crate::cut::amount;
-use crate::cut::cut;
-use crate::cut::passed;
+use crate::cut::step;
 use crate::size::height;
 use crate::size::width;
 use setting::Setting;
 ghost use mathlib.Core.Path.{_≡_};
 ghost use mathlib.Core.List.{[]};
-ghost use Prim.Native.Nat.{_+_, _≤_, _<_};
+ghost use Prim.Native.Nat.{_≤_, _<_};
 ghost use lib.IntN.{pos, negℤ};
-ghost use lib.ListN.{set, length};
 ghost use Rattle.setting.specs.Setting.{Taken, Dx, Dy};
 ghost use Rattle.quarter.specs.Cutting.{first, quarter};
 ghost use Rattle.quarter.specs.Answer.{quarterOf};
-ghost use Rattle.quarter.specs.Held.{state, Stacked, Advancing, Advanced, stored};
+ghost use Rattle.quarter.specs.Held.{state, putOut};
 
 // The start: the lower right corner of the rectangle, between its bottom and its right side.
 fn begin(s: Setting) -> Work
     requires { ⌜ Taken s ⌝ }
-    ensures { λ t. ⌜ state t ≡ first s ⌝ ∗ ⌜ Stacked t ⌝ }
+    ensures { λ t. ⌜ state t [] ≡ first s ⌝ ∗ ⌜ t .more ≡ 1 ⌝ }
 {
     let dx = width(s);
     let dy = height(s);
@@ -42,8 +40,9 @@ fn begin(s: Setting) -> Work
             l1: dx,
             l2: dx,
         },
-        top: 32,
-        after: [upright; 33],
+        more: 1,
+        new: upright,
+        last: upright,
     }
 }
 
@@ -57,11 +56,14 @@ pub fn none() -> Quarter
     }
 }
 
-// The corner (x, y) is put out, its y upwards.
-fn put(q: Quarter, x: u64, y: u64) -> Quarter
+// The corner (x, y) is put out, its y upwards, unless it is cut by d.
+fn put(q: Quarter, d: u64, x: u64, y: u64) -> Quarter
     requires { ⌜ q .count < 33 ⌝ ∗ ⌜ x ≤ 32 ⌝ ∗ ⌜ y ≤ 32 ⌝ }
-    ensures { λ r. ⌜ r ≡ stored q (pos x) (negℤ (pos y)) ⌝ }
+    ensures { λ r. ⌜ r ≡ putOut d q (pos x) (negℤ (pos y)) ⌝ }
 {
+    if 0 < d {
+        return q;
+    }
     let n = q.count;
     let mut r = q;
     r.x[n] = x as i8;
@@ -70,43 +72,27 @@ fn put(q: Quarter, x: u64, y: u64) -> Quarter
     r
 }
 
-// The quarter on the way, and the corners put out so far.
-pub struct Round {
-    pub work: Work,
-    pub out: Quarter,
-}
-
-// One round of the steps at the current corner.
-fn advance(s: Setting, t: Work, q: Quarter) -> Round
-    requires { ⌜ Advancing s t q ⌝ }
-    ensures { λ r. ⌜ Advanced s t q (r .work) (r .out) ⌝ }
-{
-    let top = t.top;
-    let r = t.after[top];
-    let d = amount(s, t.before, r);
-    if d == 0 {
-        return Round {
-            work: passed(t, r),
-            out: put(q, t.x, t.y),
-        };
-    }
-    Round {
-        work: cut(s, t, r, d),
-        out: q,
-    }
-}
-
-// The rounds, until no edge is left after the corner.
+// The rounds, until no edge is left after the corner. The edges after it are a stack from `top` to
+// the array's end; what lies before `top` does not count, so that `new` may be stored there always.
 pub fn quarter(s: Setting) -> Quarter
     requires { ⌜ Taken s ⌝ }
     ensures { λ q. ⌜ q ≡ quarterOf (quarter s) ⌝ }
 {
     let mut t = begin(s);
+    let upright = t.last;
+    let mut after = [upright; 34];
+    let mut top: usize = 33;
     let mut q = none();
-    while t.top < 33 {
-        let r = advance(s, t, q);
-        t = r.work;
-        q = r.out;
+    while top < 34 {
+        let r = after[top];
+        let d = amount(s, t.before, r);
+        q = put(q, d, t.x, t.y);
+        t = step(s, t, r, d);
+        let last = t.last;
+        let new = t.new;
+        after[top] = last;
+        after[top - 1] = new;
+        top = top + 1 - t.more;
     }
     q
 }

@@ -6,11 +6,10 @@ use crate::root::norm;
 use setting::Setting;
 ghost use mathlib.Core.Path.{_≡_};
 ghost use Prim.Native.Nat.{_+_, _-_, _*_, _≤_, _<_, min};
-ghost use lib.ListN.{length, drop};
 ghost use Rattle.setting.specs.Setting.{Taken};
-ghost use Rattle.quarter.specs.Cutting.{amount, retained, size, cutEdge, cutBoth, cutLeft, cutRight, cutNew, cut, passed};
-ghost use Rattle.quarter.specs.Moment.{Small, Cuttable};
-ghost use Rattle.quarter.specs.Held.{state, Stacked, Room};
+ghost use Rattle.quarter.specs.Cutting.{amount, retained, size, cutEdge, shortL, shortR, cutBoth, cutLeft, cutRight, cutNew, cut, passed};
+ghost use Rattle.quarter.specs.Moment.{Small};
+ghost use Rattle.quarter.specs.Held.{Room, Leads, Stepped};
 
 pub fn least(a: u64, b: u64) -> u64
     ensures { λ r. ⌜ r ≡ min a b ⌝ }
@@ -65,107 +64,95 @@ fn edge_of(l: Edge, r: Edge, d: u64, l1: u64, l2: u64) -> Edge
     }
 }
 
+// Step 3: l, whose end falls by d.
+fn shorter_end(l: Edge, d: u64) -> Edge
+    requires { ⌜ d ≤ l .l2 ⌝ }
+    ensures { λ e. ⌜ e ≡ shortL l d ⌝ }
+{
+    let mut e = l;
+    e.l2 = l.l2 - d;
+    e
+}
+
+// Step 3: r, whose start falls by d.
+fn shorter_start(r: Edge, d: u64) -> Edge
+    requires { ⌜ d ≤ r .l1 ⌝ }
+    ensures { λ e. ⌜ e ≡ shortR r d ⌝ }
+{
+    let mut e = r;
+    e.l1 = r.l1 - d;
+    e
+}
+
 // Step 4, where d is all of both edges: the new one takes the place of l, and r goes.
 fn cut_both(t: Work, r: Edge, d: u64) -> Work
     requires { ⌜ Room t r d ⌝ }
-    ensures { λ n. ⌜ state n ≡ cutBoth (t .x) (t .y) d (t .before) r (drop (t .top + 1) (t .after)) ⌝ ∗ ⌜ Stacked n ⌝ }
+    ensures { λ n. ⌜ Leads n (cutBoth (t .x) (t .y) d (t .before) r) ⌝ }
 {
     let l = t.before;
-    let after = t.after;
-    Work {
-        x: t.x + d * r.u,
-        y: t.y - d * r.v,
-        before: edge_of(l, r, d, l.l1, l.l2),
-        top: t.top + 1,
-        after: after,
-    }
+    let mut n = t;
+    n.x = t.x + d * r.u;
+    n.y = t.y - d * r.v;
+    n.before = edge_of(l, r, d, l.l1, l.l2);
+    n.more = 0;
+    n
 }
 
 // Step 4, where d is all of l alone: the new one takes its place.
 fn cut_left(t: Work, r: Edge, d: u64) -> Work
     requires { ⌜ Room t r d ⌝ }
-    ensures { λ n. ⌜ state n ≡ cutLeft (t .x) (t .y) d (t .before) r (drop (t .top + 1) (t .after)) ⌝ ∗ ⌜ Stacked n ⌝ }
+    ensures { λ n. ⌜ Leads n (cutLeft (t .x) (t .y) d (t .before) r) ⌝ }
 {
     let l = t.before;
-    let top = t.top;
-    let mut after = t.after;
-    after[top] = Edge {
-        u: r.u,
-        v: r.v,
-        c: r.c,
-        l1: r.l1 - d,
-        l2: r.l2,
-    };
-    Work {
-        x: t.x + d * r.u,
-        y: t.y - d * r.v,
-        before: edge_of(l, r, d, l.l1, l.l2),
-        top: top,
-        after: after,
-    }
+    let mut n = t;
+    n.x = t.x + d * r.u;
+    n.y = t.y - d * r.v;
+    n.before = edge_of(l, r, d, l.l1, l.l2);
+    n.more = 1;
+    n.last = shorter_start(r, d);
+    n
 }
 
 // Step 4, where d is all of r alone: the new one takes its place.
 fn cut_right(t: Work, r: Edge, d: u64) -> Work
     requires { ⌜ Room t r d ⌝ }
-    ensures { λ n. ⌜ state n ≡ cutRight (t .x) (t .y) d (t .before) r (drop (t .top + 1) (t .after)) ⌝ ∗ ⌜ Stacked n ⌝ }
+    ensures { λ n. ⌜ Leads n (cutRight (t .x) (t .y) d (t .before) r) ⌝ }
 {
     let l = t.before;
-    let top = t.top;
-    let mut after = t.after;
-    after[top] = edge_of(l, r, d, r.l1, r.l2);
-    Work {
-        x: t.x - d * l.u,
-        y: t.y + d * l.v,
-        before: Edge {
-            u: l.u,
-            v: l.v,
-            c: l.c,
-            l1: l.l1,
-            l2: l.l2 - d,
-        },
-        top: top,
-        after: after,
-    }
+    let mut n = t;
+    n.x = t.x - d * l.u;
+    n.y = t.y + d * l.v;
+    n.before = shorter_end(l, d);
+    n.more = 1;
+    n.last = edge_of(l, r, d, r.l1, r.l2);
+    n
 }
 
 // Step 4, where something is left of both: a new edge between them.
 fn cut_new(s: Setting, t: Work, r: Edge, d: u64) -> Work
-    requires { ⌜ Taken s ⌝ ∗ ⌜ Room t r d ⌝ ∗ ⌜ 1 ≤ t .top ⌝ }
-    ensures { λ n. ⌜ state n ≡ cutNew (t .x) (t .y) d (retained s (t .before .u + r .u) (t .before .v + r .v) (t .before .c + r .c - d) (t .x - d * t .before .u) d) (t .before) r (drop (t .top + 1) (t .after)) ⌝ ∗ ⌜ Stacked n ⌝ }
+    requires { ⌜ Taken s ⌝ ∗ ⌜ Room t r d ⌝ }
+    ensures { λ n. ⌜ Leads n (cutNew (t .x) (t .y) d (retained s (t .before .u + r .u) (t .before .v + r .v) (t .before .c + r .c - d) (t .x - d * t .before .u) d) (t .before) r) ⌝ }
 {
     let l = t.before;
-    let top = t.top;
     let x = t.x - d * l.u;
-    let k = retained(s, l.u + r.u, l.v + r.v, l.c + r.c - d, x, d);
-    let mut after = t.after;
-    after[top] = Edge {
-        u: r.u,
-        v: r.v,
-        c: r.c,
-        l1: r.l1 - d,
-        l2: r.l2,
-    };
-    after[top - 1] = edge_of(l, r, d, k, d - k);
-    Work {
-        x: x,
-        y: t.y + d * l.v,
-        before: Edge {
-            u: l.u,
-            v: l.v,
-            c: l.c,
-            l1: l.l1,
-            l2: l.l2 - d,
-        },
-        top: top - 1,
-        after: after,
-    }
+    let mut e = edge_of(l, r, d, 0, d);
+    let k = retained(s, e.u, e.v, e.c, x, d);
+    e.l1 = k;
+    e.l2 = d - k;
+    let mut n = t;
+    n.x = x;
+    n.y = t.y + d * l.v;
+    n.before = shorter_end(l, d);
+    n.more = 2;
+    n.new = e;
+    n.last = shorter_start(r, d);
+    n
 }
 
 // Steps 3 and 4: the corner is cut by d.
-pub fn cut(s: Setting, t: Work, r: Edge, d: u64) -> Work
-    requires { ⌜ Taken s ⌝ ∗ ⌜ Room t r d ⌝ ∗ ⌜ ((d ≡ size (t .before) → ⊥) → (d ≡ size r → ⊥) → 1 ≤ t .top) ⌝ }
-    ensures { λ n. ⌜ state n ≡ cut s (t .x) (t .y) d (t .before) r (drop (t .top + 1) (t .after)) ⌝ ∗ ⌜ Stacked n ⌝ }
+fn cut(s: Setting, t: Work, r: Edge, d: u64) -> Work
+    requires { ⌜ Taken s ⌝ ∗ ⌜ Room t r d ⌝ }
+    ensures { λ n. ⌜ Leads n (cut s (t .x) (t .y) d (t .before) r) ⌝ }
 {
     let l = t.before;
     if d == l.l1 + l.l2 {
@@ -182,23 +169,29 @@ pub fn cut(s: Setting, t: Work, r: Edge, d: u64) -> Work
 
 // Step 5: the corner is put out; r drops its retained point, and its end is the next corner. (Past
 // the last corner there is none, and y is 0.)
-pub fn passed(t: Work, r: Edge) -> Work
-    requires { ⌜ Small r ⌝ ∗ ⌜ t .x ≤ 32 ⌝ ∗ ⌜ t .top < 33 ⌝ ∗ ⌜ length (t .after) ≡ 33 ⌝ }
-    ensures { λ n. ⌜ state n ≡ passed (t .x) (t .y) r (drop (t .top + 1) (t .after)) ⌝ ∗ ⌜ Stacked n ⌝ }
+fn passed(t: Work, r: Edge) -> Work
+    requires { ⌜ Small r ⌝ ∗ ⌜ t .x ≤ 32 ⌝ }
+    ensures { λ n. ⌜ Leads n (passed (t .x) (t .y) r) ⌝ }
 {
     let size = r.l1 + r.l2;
-    let after = t.after;
-    Work {
-        x: t.x + size * r.u,
-        y: minus(t.y, size * r.v),
-        before: Edge {
-            u: r.u,
-            v: r.v,
-            c: r.c,
-            l1: 0,
-            l2: size,
-        },
-        top: t.top + 1,
-        after: after,
+    let mut n = t;
+    n.x = t.x + size * r.u;
+    n.y = minus(t.y, size * r.v);
+    let mut e = r;
+    e.l1 = 0;
+    e.l2 = size;
+    n.before = e;
+    n.more = 0;
+    n
+}
+
+// The corner is cut by d, or put out where d is 0.
+pub fn step(s: Setting, t: Work, r: Edge, d: u64) -> Work
+    requires { ⌜ Taken s ⌝ ∗ ⌜ Room t r d ⌝ }
+    ensures { λ n. ⌜ Stepped s t r d n ⌝ }
+{
+    if d == 0 {
+        return passed(t, r);
     }
+    cut(s, t, r, d)
 }

@@ -23,14 +23,17 @@ pub struct Edge {
     pub l2: u64,
 }
 
-// The quarter on the way: the current corner, y measured downwards; the edge before it; and the
-// edges after it, a stack from `top` to the array's end.
+// The current corner, y measured downwards; the edge before it; and what takes the place of the edge
+// that came after the corner before: `more` edges (0 to 2), of which the second is `last` and the
+// first, where there are two, `new`. The stack of all edges to come is not in here, so that no step
+// copies it.
 pub struct Work {
     pub x: u64,
     pub y: u64,
     pub before: Edge,
-    pub top: usize,
-    pub after: [Edge; 33],
+    pub more: usize,
+    pub new: Edge,
+    pub last: Edge,
 }
 
 // The corners of the lower right quarter from the bottom, in half pixels, y upwards.

@@ -1,5 +1,4 @@
--- The stack holds the upright edge, and all 33 of its places are filled with it.
-use native.Mathlib.Omega.{arith}
+-- The upright edge takes the place of the one after the corner.
 use mathlib.Core.Path.{_≡_, refl}
 use borrow.Author.Needs.{needs}
 use Rattle.quarter.proofs.corners.begin.Statement.{statement}
@@ -9,17 +8,17 @@ use Rattle.quarter.proofs.corners.begin.Lts as lts
 use Rattle.quarter.proofs.size.height.Reads as height-reads
 use Rattle.quarter.proofs.size.width.Reads as width-reads
 
--- src/corners.rt:26:9
+-- src/corners.rt:24:9
 width-requires : tie.Need-width-requires
 width-requires c κs = search needs
 
--- src/corners.rt:27:9
+-- src/corners.rt:25:9
 height-requires : tie.Need-height-requires
 height-requires c κs = search needs
 
--- src/corners.rt:22:1
+-- src/corners.rt:20:1
 returns : tie.Need-returns
-returns c = (rw (c .before .width .ensures, c .height .ensures), record { top-most = omega arith; long = refl })
+returns c = (rw (c .before .width .ensures, c .height .ensures), refl)
 
 pub begin-spec : {M : Type 1} → statement M
 begin-spec = tie.close (tie.spec width-requires height-requires returns)

@@ -1,109 +1,199 @@
 -- The loop goes from moment to moment of the steps: the laws of a moment say that there is room, that no number is too large, and that it ends.
 use Rattle.quarter.proofs.Theorems.{steps-fall, at-most-33, ends-with-quarter, nothing-below-zero}
-use Rattle.quarter.proofs.Stack.{after-top}
+use Rattle.quarter.proofs.Stack.{drop-top, drop-front}
 use Rattle.quarter.proofs.Laid.{stored-quarter}
-use Rattle.quarter.specs.Cutting.{step, put, on}
-use Rattle.quarter.specs.Held.{stored, topEdge, Advanced}
-use lib.ListN.{length-drop, drop-of-length-le}
-use lib.IntN.{pos, negℤ}
-use Rattle.quarter.specs.Held.{state, Stacked, Advancing}
-use Rattle.quarter.specs.Moment.{Moment, start, puts, cuts, total}
+use Rattle.quarter.specs.Held.{front, state, Room, Stepped, stored, putOut, outcome}
+use Rattle.quarter.specs.Moment.{Moment, start, puts, cuts, total, Cuttable, Ready}
 use Rattle.quarter.specs.Answer.{quarterOf}
-use Rattle.quarter.specs.Cutting.{Corner, first, quarter}
+use Rattle.quarter.specs.Cutting.{Corner, State, first, amount, act, step, stepAt, quarter}
 use Rattle.setting.specs.Setting.{Taken}
+use Rattle.quarter.specs.declared.Edge.{Edge}
 use Rattle.quarter.specs.declared.Quarter.{Quarter}
 use Rattle.quarter.specs.declared.Work.{Work}
 use Rattle.setting.specs.declared.Setting.{Setting}
-use lib.ListN.{length, drop}
+use lib.IntN.{pos, negℤ}
+use lib.ListN.{length, drop, getD, set, length-set, length-drop, drop-of-length-le}
 use native.Mathlib.Omega.{arith}
 use mathlib.Core.List.{List, [], _∷_, _++_}
-use mathlib.Core.Logic.{⊎-elim}
 use mathlib.Core.Path.{_≡_, refl, sym, ap, subst, _∙_}
-use Prim.Native.Nat.{ℕ, _+_, _≤_, _<_}
+use Prim.Native.Nat.{ℕ, zero, suc, _+_, _-_, _≤_, _<_}
 use Rattle.quarter.proofs.corners.quarter.Statement.{statement}
 use Rattle.quarter.proofs.corners.quarter.Tie as tie
 use Rattle.quarter.proofs.corners.quarter.Reads as reads
 use Rattle.quarter.proofs.corners.quarter.Lts as lts
-use Rattle.quarter.proofs.corners.advance.Reads as advance-reads
 use Rattle.quarter.proofs.corners.begin.Reads as begin-reads
 use Rattle.quarter.proofs.corners.none.Reads as none-reads
+use Rattle.quarter.proofs.corners.put.Reads as put-reads
+use Rattle.quarter.proofs.cut.amount.Reads as amount-reads
+use Rattle.quarter.proofs.cut.step.Reads as step-reads
+
+-- the edges after the corner are those from the stack's top to the array's end
+abbrev at : Work → List Edge → ℕ → State
+at t after top = record { x = t .x; y = t .y; before = t .before; after = drop top after }
+
+abbrev top-edge : List Edge → ℕ → Edge
+top-edge after top = getD after top (record { u = 0; v = 0; c = 0; l1 = 0; l2 = 0 })
 
 -- the corners put out so far are in the list, and the state is the steps' at that moment
-record Held (σ : Setting) (t : Work) (q : Quarter) : Type 0 where
+record Held (σ : Setting) (t : Work) (after : List Edge) (top : ℕ) (q : Quarter) : Type 0 where
+  long : length after ≡ 34
+  high : top ≤ 34
   out : List Corner
-  moment : Moment σ out (state t)
+  moment : Moment σ out (at t after top)
   list : q ≡ quarterOf out
 
+begun : (σ : Setting) (t : Work) → state t [] ≡ first σ → t .more ≡ 1 → record { x = t .x; y = t .y; before = t .before; after = t .last ∷ [] } ≡ first σ
+begun σ t e m = sym (ap (λ (k : ℕ). record { x = t .x; y = t .y; before = t .before; after = front k (t .new) (t .last) [] }) m) ∙ e
+
 abbrev Inv-loop : tie.InvT-loop
-Inv-loop s t₀ q₀ t q = Taken s × Stacked t × Held s t q
+Inv-loop s t₀ after₀ top₀ q₀ t after top q = Taken s × Held s t after top q
 
 abbrev μ-loop : tie.MeasureT-loop
-μ-loop s t₀ q₀ t q = total (state t)
+μ-loop s t₀ after₀ top₀ q₀ t after top q = total (at t after top)
 
--- there is a place in the list while an edge is left
-place : {σ : Setting} → Taken σ → {t : Work} {q : Quarter} → Stacked t → (h : Held σ t q) → t .top < 33 → length (h .out) < 33
-place {σ} τ {t} k h l =
-    omega (arith, at-most-33 σ τ (h .out) (state t) (h .moment), length-drop (t .top) (t .after), k .long)
+module _ {σ : Setting} (τ : Taken σ) {t : Work} {after : List Edge} {top : ℕ} {q : Quarter} (h : Held σ t after top q) where
+  few : length (h .out) + (34 - top) ≤ 33
+  few = omega (arith, at-most-33 σ τ (h .out) (at t after top) (h .moment), length-drop top after, h .long)
 
-advancing : {σ : Setting} → Taken σ → {t : Work} {q : Quarter} → Stacked t → Held σ t q → t .top < 33 → Advancing σ t q
-advancing {σ} τ {t} {q} k h l = record {
-  taken = τ;
-  in-array = l;
-  long = k .long;
-  ready = nothing-below-zero σ τ (h .out) (state t) (h .moment) (topEdge t) (drop (t .top + 1) (t .after)) (after-top t l (k .long));
-  place = subst (λ (p : Quarter). p .count < 33) (sym (h .list)) (place τ k h l);
-}
+  -- there is a place below the top, so that an edge may be stored there
+  low : 1 ≤ top
+  low = omega (arith, few)
 
-falls : {σ : Setting} → Taken σ → {t t′ : Work} {q q′ : Quarter} → Held σ t q → Advanced σ t q t′ q′ → total (state t′) < total (state t)
-falls {σ} τ {t} {t′} h a =
-    let f = steps-fall σ τ (h .out) (state t) (h .moment) in
-    ⊎-elim (λ w. f .0 (state t′) (w .0)) (λ w. f .1 (state t′) (w .0)) (a .stepped)
+  ended : 34 ≤ top → q ≡ quarterOf (quarter σ)
+  ended l = h .list ∙ ap quarterOf (ends-with-quarter σ τ (h .out) (at t after top) (h .moment) (drop-of-length-le after {i = top} (omega (arith, h .long))))
 
-again : {σ : Setting} → Taken σ → {t t′ : Work} {q q′ : Quarter} → Stacked t → Held σ t q → t .top < 33 → Advanced σ t q t′ q′ → Held σ t′ q′
-again {σ} τ {t} {t′} {q} {q′} k h l a = ⊎-elim after-put after-cut (a .stepped)
-  where
-    after-put : (step σ (state t) ≡ put (state t′)) × (q′ ≡ stored q (pos (t .x)) (negℤ (pos (t .y)))) → Held σ t′ q′
-    after-put w = record {
-      out = h .out ++ (record { x = t .x; y = t .y } ∷ []);
-      moment = puts (h .moment) (w .0);
-      list = w .1 ∙ ap (λ (p : Quarter). stored p (pos (t .x)) (negℤ (pos (t .y)))) (h .list)
-          ∙ stored-quarter (h .out) (record { x = t .x; y = t .y }) (place τ k h l);
-    }
+  module _ (l : top < 34) where
+    inside : top < length after
+    inside = omega (arith, h .long)
 
-    after-cut : (step σ (state t) ≡ on (state t′)) × (q′ ≡ q) → Held σ t′ q′
-    after-cut w = record { out = h .out; moment = cuts (h .moment) (w .0); list = w .1 ∙ h .list }
+    ready : Ready σ (at t after top) (top-edge after top)
+    ready = nothing-below-zero σ τ (h .out) (at t after top) (h .moment) (top-edge after top) (drop (top + 1) after) (drop-top after top _ inside)
 
-ended : {σ : Setting} → Taken σ → {t : Work} {q : Quarter} → Stacked t → Held σ t q → 33 ≤ t .top → q ≡ quarterOf (quarter σ)
-ended {σ} τ {t} k h l =
-    h .list ∙ ap quarterOf (ends-with-quarter σ τ (h .out) (state t) (h .moment) (drop-of-length-le (t .after) {i = t .top} (omega (arith, k .long))))
+    -- there is a place in the list while an edge is left
+    place : length (h .out) < 33
+    place = omega (arith, few)
 
--- src/corners.rt:104:9
+    place-left : q .count < 33
+    place-left = subst (λ (p : Quarter). p .count < 33) (sym (h .list)) place
+
+    module _ {d : ℕ} (e : d ≡ amount σ (t .before) (top-edge after top)) where
+      room : Room t (top-edge after top) d
+      room = let r = ready in record {
+        x-small = r .x-small;
+        y-small = r .y-small;
+        before = r .before;
+        after = r .after;
+        rightward = r .rightward;
+        cuttable = subst (λ (d : ℕ). Cuttable (t .x) (t .y) d (t .before) (top-edge after top)) (sym e) (r .cuttable);
+      }
+
+      module _ {n : Work} (s : Stepped σ t (top-edge after top) d n) where
+        abbrev next : State
+        next = at n (set (set after top (n .last)) (top - 1) (n .new)) (top + 1 - n .more)
+
+        stepped : step σ (at t after top) ≡ outcome d next
+        stepped =
+            ap (λ (es : List Edge). stepAt es σ (t .x) (t .y) (t .before)) (drop-top after top _ inside)
+            ∙ ap (λ (k : ℕ). act k σ (t .x) (t .y) (t .before) (top-edge after top) (drop (top + 1) after)) (sym e)
+            ∙ s .is (drop (top + 1) after)
+            ∙ ap (λ (es : List Edge). outcome d (record { x = n .x; y = n .y; before = n .before; after = es })) (sym (drop-front after top (n .new) (n .last) (n .more) (s .few) low inside))
+
+        falls : total next < total (at t after top)
+        falls = go d stepped
+          where
+            go : (d : ℕ) → step σ (at t after top) ≡ outcome d next → total next < total (at t after top)
+            go zero w = steps-fall σ τ (h .out) (at t after top) (h .moment) .0 next w
+            go (suc d) w = steps-fall σ τ (h .out) (at t after top) (h .moment) .1 next w
+
+        again : {q′ : Quarter} → q′ ≡ putOut d q (pos (t .x)) (negℤ (pos (t .y))) → Held σ n (set (set after top (n .last)) (top - 1) (n .new)) (top + 1 - n .more) q′
+        again {q′} k = go d stepped k
+          where
+            long′ : length (set (set after top (n .last)) (top - 1) (n .new)) ≡ 34
+            long′ = length-set (set after top (n .last)) (top - 1) (n .new) ∙ length-set after top (n .last) ∙ h .long
+
+            go : (d : ℕ) → step σ (at t after top) ≡ outcome d next → q′ ≡ putOut d q (pos (t .x)) (negℤ (pos (t .y))) →
+                Held σ n (set (set after top (n .last)) (top - 1) (n .new)) (top + 1 - n .more) q′
+            go zero w k = record {
+              long = long′;
+              high = omega arith;
+              out = h .out ++ (record { x = t .x; y = t .y } ∷ []);
+              moment = puts (h .moment) w;
+              list = k ∙ ap (λ (p : Quarter). stored p (pos (t .x)) (negℤ (pos (t .y)))) (h .list)
+                  ∙ stored-quarter (h .out) (record { x = t .x; y = t .y }) place;
+            }
+            go (suc d) w k = record { long = long′; high = omega arith; out = h .out; moment = cuts (h .moment) w; list = k ∙ h .list }
+
+-- src/corners.rt:81:9
 begin-requires : tie.Need-begin-requires Inv-loop μ-loop
 begin-requires c κs = c .pre
 
--- src/corners.rt:105:9
+-- src/corners.rt:85:9
 none-requires : tie.Need-none-requires Inv-loop μ-loop
 none-requires c κs = tt
 
--- src/corners.rt:106:5
+-- src/corners.rt:86:5
 loop-holds : tie.Need-loop-holds Inv-loop μ-loop
-loop-holds c = (c .before .before .pre, c .before .begin .ensures .1, record { out = []; moment = subst (Moment (c .before .before .args .s) []) (sym (c .before .begin .ensures .0)) start; list = c .none .ensures })
+loop-holds c = let b = c .before .before .begin .ensures in (c .before .before .before .pre, record { long = refl; high = omega arith; out = []; moment = subst (Moment (c .before .before .before .args .s) []) (sym (begun _ _ (b .0) (b .1))) start; list = c .none .ensures })
 
--- src/corners.rt:107:13
-advance-requires : tie.Need-advance-requires Inv-loop μ-loop
-advance-requires c κs = let i = c .before .before .loop .inv in advancing (i .0) (i .1) (i .2) (c .if1 .taken)
+-- src/corners.rt:87:17
+mul-r : tie.Need-mul-r Inv-loop μ-loop
+mul-r c = record { fits = omega (arith, c .loop-test .taken) }
 
--- src/corners.rt:106:5
+-- src/corners.rt:87:17
+array-copy-out-r : tie.Need-array-copy-out-r Inv-loop μ-loop
+array-copy-out-r c = c .loop-test .taken
+
+-- src/corners.rt:88:13
+amount-requires : tie.Need-amount-requires Inv-loop μ-loop
+amount-requires c κs = let i = c .before .before .loop .inv in let r = ready (i .0) (i .1) (c .before .loop-test .taken) in (i .0, (r .before, r .after))
+
+-- src/corners.rt:89:9
+put-requires : tie.Need-put-requires Inv-loop μ-loop
+put-requires c κs = let i = c .before .before .before .loop .inv in let l = c .before .before .loop-test .taken in let r = ready (i .0) (i .1) l in (place-left (i .0) (i .1) l, (r .x-small, r .y-small))
+
+-- src/corners.rt:90:9
+step-requires : tie.Need-step-requires Inv-loop μ-loop
+step-requires c κs = let i = c .before .before .before .before .loop .inv in (i .0, room (i .0) (i .1) (c .before .before .before .loop-test .taken) (c .before .amount .ensures))
+
+-- src/corners.rt:93:9
+mul-after : tie.Need-mul-after Inv-loop μ-loop
+mul-after c = record { fits = omega (arith, c .before .before .before .before .before .before .loop-test .taken) }
+
+-- src/corners.rt:93:9
+array-set-from-after : tie.Need-array-set-from-after Inv-loop μ-loop
+array-set-from-after c = c .before .before .before .before .before .before .loop-test .taken
+
+-- src/corners.rt:94:15
+sub-after : tie.Need-sub-after Inv-loop μ-loop
+sub-after c = let i = c .before .before .before .before .before .before .before .loop .inv in low (i .0) (i .1)
+
+-- src/corners.rt:94:9
+mul-after-2 : tie.Need-mul-after-2 Inv-loop μ-loop
+mul-after-2 c = record { fits = omega (arith, c .before .before .before .before .before .before .loop-test .taken) }
+
+-- src/corners.rt:94:9
+array-set-from-after-2 : tie.Need-array-set-from-after-2 Inv-loop μ-loop
+array-set-from-after-2 c = omega (arith, c .before .before .before .before .before .before .loop-test .taken)
+
+-- src/corners.rt:95:15
+add-top : tie.Need-add-top Inv-loop μ-loop
+add-top c = record { fits = omega (arith, c .before .before .before .before .before .before .loop-test .taken) }
+
+-- src/corners.rt:95:15
+sub-top : tie.Need-sub-top Inv-loop μ-loop
+sub-top c = let i = c .before .before .before .before .before .before .before .before .loop .inv in omega (arith, low (i .0) (i .1), c .before .before .before .step .ensures .few)
+
+-- src/corners.rt:86:5
 loop-less : tie.Need-loop-less Inv-loop μ-loop
-loop-less c = let i = c .before .before .before .before .before .loop .inv in falls (i .0) (i .2) (c .before .before .advance .ensures)
+loop-less c = let i = c .before .before .before .before .before .before .before .before .loop .inv in falls (i .0) (i .1) (c .before .before .before .before .before .before .before .loop-test .taken) (c .before .before .before .before .before .amount .ensures) (c .before .before .before .step .ensures)
 
--- src/corners.rt:106:5
+-- src/corners.rt:86:5
 loop-again : tie.Need-loop-again Inv-loop μ-loop
-loop-again c = let i = c .before .before .before .before .before .loop .inv in (i .0, c .before .before .advance .ensures .stacked, again (i .0) (i .1) (i .2) (c .before .before .before .if1 .taken) (c .before .before .advance .ensures))
+loop-again c = let i = c .before .before .before .before .before .before .before .before .loop .inv in (i .0, again (i .0) (i .1) (c .before .before .before .before .before .before .before .loop-test .taken) (c .before .before .before .before .before .amount .ensures) (c .before .before .before .step .ensures) (c .before .before .before .before .put .ensures))
 
--- src/corners.rt:100:1
+-- src/corners.rt:77:1
 returns : tie.Need-returns Inv-loop μ-loop
-returns c = let i = c .before .before .loop .inv in ended (i .0) (i .1) (i .2) (c .if1 .left)
+returns c = let i = c .before .loop .inv in ended (i .0) (i .1) (c .loop-test .left)
 
 pub quarter-spec : {M : Type 1} → statement M
 quarter-spec =
@@ -114,7 +204,18 @@ quarter-spec =
     begin-requires
     none-requires
     loop-holds
-    advance-requires
+    mul-r
+    array-copy-out-r
+    amount-requires
+    put-requires
+    step-requires
+    mul-after
+    array-set-from-after
+    sub-after
+    mul-after-2
+    array-set-from-after-2
+    add-top
+    sub-top
     loop-less
     loop-again
     returns)
