@@ -17,6 +17,7 @@ use Rattle.quarter.specs.Answer.{laid, across, upwards, quarterOf}
 use Rattle.quarter.proofs.Laid.{laid-corner, count-snoc, laid-long, laid-small}
 use Rattle.quarter.proofs.Ranges.{some}
 use Rattle.quarter.proofs.Theorems.{quarter-few, quarter-box}
+use Rattle.pen.specs.declared.Pen.{Pen}
 use Rattle.pen.specs.Polygon.{Pt, pt, same, upward}
 use Rattle.pen.specs.Answer.{points, corners, penOf}
 use Rattle.pen.specs.Mirrored.{pushed, Mirrorable, cornersOf}
@@ -34,6 +35,13 @@ pushed-pen cs a b h = go (same a b)
         ≡ penOf (cs ++ cond t [] (a ∷ []))
     go true = ap penOf (sym (append-nil cs))
     go false = rw (count-snoc cs a, laid-corner 132 (λ (z : Pt). z .x) cs a h, laid-corner 132 (λ (z : Pt). z .y) cs a h)
+
+-- the two cases of a corner more
+pub skipped : (p : Pen) (a b : Pt) → same a b ≡ true → p ≡ pushed p a b
+skipped p a b e = sym (ap (λ (t : Bool). cond t p (record { count = p .count + 1; x = set (p .x) (p .count) (a .x); y = set (p .y) (p .count) (a .y) })) e)
+
+pub added : (p : Pen) (a b : Pt) → same a b ≡ false → record { count = p .count + 1; x = set (p .x) (p .count) (a .x); y = set (p .y) (p .count) (a .y) } ≡ pushed p a b
+added p a b e = sym (ap (λ (t : Bool). cond t p (record { count = p .count + 1; x = set (p .x) (p .count) (a .x); y = set (p .y) (p .count) (a .y) })) e)
 
 -- ---- reading the arrays back gives the points: of two numbers of each element, and so of the quarter's corners and of a list of points
 module _ {A : Type 0} (f g : A → ℤ) where

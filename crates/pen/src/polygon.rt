@@ -80,20 +80,29 @@ fn push(p: Pen, ax: i8, ay: i8, bx: i8, by: i8) -> Pen
     r
 }
 
+// The corners of the walk one after the other, each with the next one. A corner is stored here and
+// not by `push`, which hands on all places of the pen.
 pub fn mirrored(q: Quarter) -> Pen
     requires { ⌜ Mirrorable q ⌝ }
     ensures { λ r. ⌜ r ≡ penOf (whole (cornersOf q)) ⌝ }
 {
-    let n = q.count;
+    let n = 4 * q.count;
+    let first = corner_at(q, 0);
     let mut p = none();
+    let mut ax = first.x;
+    let mut ay = first.y;
     let mut i = 1;
-    while i < 4 * n {
-        let a = corner_at(q, i - 1);
+    while i < n {
         let b = corner_at(q, i);
-        p = push(p, a.x, a.y, b.x, b.y);
+        if !equal(ax, ay, b.x, b.y) {
+            let k = p.count;
+            p.x[k] = ax;
+            p.y[k] = ay;
+            p.count = k + 1;
+        }
+        ax = b.x;
+        ay = b.y;
         i += 1;
     }
-    let a = corner_at(q, 4 * n - 1);
-    let b = corner_at(q, 0);
-    push(p, a.x, a.y, b.x, b.y)
+    push(p, ax, ay, first.x, first.y)
 }

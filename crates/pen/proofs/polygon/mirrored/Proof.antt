@@ -1,6 +1,6 @@
--- The loop pushes the walk's corners one after the other, each with the next one, as `onceEach` does.
+-- The loop stores the walk's corners one after the other, each with the next one, as `onceEach` does.
 use Rattle.pen.proofs.Walk.{walk-long}
-use Rattle.pen.proofs.Laid.{once, pushed-pen}
+use Rattle.pen.proofs.Laid.{once, pushed-pen, skipped, added}
 use Rattle.pen.specs.Mirrored.{pointOf}
 use Rattle.integers.proofs.Machine.{known}
 use mir.Syntax.{w8}
@@ -15,10 +15,11 @@ use Rattle.pen.specs.Answer.{penOf}
 use Rattle.pen.specs.Polygon.{Pt, pt, same, around, onceEach, closed, whole}
 use Rattle.pen.specs.declared.Pen.{Pen}
 use Rattle.quarter.specs.declared.Quarter.{Quarter}
-use lib.ListN.{length, getD, drop, length-append, drop-of-length-le}
-use mathlib.Core.Bool.{Bool, true, false, cond}
+use lib.ListN.{length, getD, set, drop, length-append, drop-of-length-le}
+use mathlib.Core.Bool.{Bool, true, false, not, cond}
 use native.Mathlib.Omega.{arith}
 use mathlib.Core.List.{List, [], _∷_, _++_}
+use mathlib.Core.Logic.{⊎-elim}
 use mathlib.Core.Path.{_≡_, refl, sym, ap, ap₂, subst, _∙_}
 use Prim.Native.Nat.{ℕ, suc, _+_, _*_, _-_, _≤_, _<_}
 use Rattle.pen.proofs.polygon.mirrored.Statement.{statement}
@@ -26,6 +27,7 @@ use Rattle.pen.proofs.polygon.mirrored.Tie as tie
 use Rattle.pen.proofs.polygon.mirrored.Reads as reads
 use Rattle.pen.proofs.polygon.mirrored.Lts as lts
 use Rattle.pen.proofs.polygon.corner_at.Reads as corner-at-reads
+use Rattle.pen.proofs.polygon.equal.Reads as equal-reads
 use Rattle.pen.proofs.polygon.none.Reads as none-reads
 use Rattle.pen.proofs.polygon.push.Reads as push-reads
 
@@ -83,99 +85,111 @@ further q m {p} {p′} {i} g h l e =
     }
 
 -- the last corner goes with the first
-closing : (q : Quarter) → Mirrorable q → {p p′ : Pen} {i : ℕ} → Going q p i → i ≡ 4 * q .count → p′ ≡ pushed p (getD (walk q) (4 * q .count - 1) origin) (getD (walk q) 0 origin) →
+closing : (q : Quarter) → Mirrorable q → {p p′ : Pen} {i : ℕ} → Going q p i → i ≡ 4 * q .count → p′ ≡ pushed p (getD (walk q) (i - 1) origin) (getD (walk q) 0 origin) →
     p′ ≡ penOf (whole (cornersOf q))
 unfolding onceEach
 closing q m {p} {p′} {i} g n e =
     let a = getD (walk q) (i - 1) origin in
     let f = getD (walk q) 0 origin in
     let none : drop i (walk q) ≡ [] = drop-of-length-le (walk q) {i = i} (omega (arith, walk-long q m)) in
-    let e′ = subst (λ (k : ℕ). p′ ≡ pushed p (getD (walk q) (k - 1) origin) f) (sym n) e in
-    e′ ∙ ap (λ (p : Pen). pushed p a f) (g .held) ∙ pushed-pen (g .out) a f (omega (arith, g .few, m .few))
+    e ∙ ap (λ (p : Pen). pushed p a f) (g .held) ∙ pushed-pen (g .out) a f (omega (arith, g .few, m .few))
     ∙ ap penOf (ap (λ (l : List Pt). g .out ++ onceEach f a l) (sym none) ∙ g .left)
 
 abbrev Inv-loop : tie.InvT-loop
-Inv-loop q n p₀ i₀ p i = Mirrorable q × (n ≡ q .count) × (1 ≤ i) × (i ≤ 4 * n) × Going q p i
+Inv-loop q n first p₀ ax₀ ay₀ i₀ p ax ay i = Mirrorable q × (1 ≤ i) × (i ≤ 4 * q .count) × Going q p i × (pt (toZ w8 ax) (toZ w8 ay) ≡ getD (walk q) (i - 1) origin)
 
 abbrev μ-loop : tie.MeasureT-loop
-μ-loop q n p₀ i₀ p i = 4 * n - i
+μ-loop q n first p₀ ax₀ ay₀ i₀ p ax ay i = 4 * q .count - i
 
 -- a corner that `corner_at` answered, as it is handed on
 point : {r : Point} {z : Pt} → (pointOf r ≡ z) × (Abs (r .x) 32 × Abs (r .y) 32) → pt (toZ w8 (ofZ w8 (r .x))) (toZ w8 (ofZ w8 (r .y))) ≡ z
 point h = ap₂ pt (known {w = w8} (h .1 .0) tt .reads) (known {w = w8} (h .1 .1) tt .reads) ∙ h .0
 
--- src/polygon.rt:88:9
+-- there is a place where a corner is stored
+place : (c : tie.Then1 Inv-loop μ-loop) → c .before .before .before .before .before .before .loop .p .count < 132
+place c = let i = c .before .before .before .before .before .before .loop .inv in room (i .3) (omega (arith, i .0 .few, i .2))
+
+-- whether a corner equals the next one
+told : (c : tie.After-equal Inv-loop μ-loop) → c .equal .result ≡ same (getD (walk (c .before .before .before .before .before .before .before .before .before .before .before .args .q)) (c .before .before .before .before .before .loop .i - 1) origin) (getD (walk (c .before .before .before .before .before .before .before .before .before .before .before .args .q)) (c .before .before .before .before .before .loop .i) origin)
+told c = c .equal .ensures ∙ ap₂ same (c .before .before .before .before .before .loop .inv .4) (point (c .before .before .before .corner-at2 .ensures))
+
+unnot : (a b : Bool) → not a ≡ b → a ≡ not b
+unnot true b h = ap not h
+unnot false b h = ap not h
+
+-- a round stores the corner unless it equals the next one
+stored : (c : tie.Joined1 Inv-loop μ-loop) → c .if1 .p ≡ pushed (c .before .before .before .before .before .before .loop .p) (getD (walk (c .before .before .before .before .before .before .before .before .before .before .before .before .args .q)) (c .before .before .before .before .before .before .loop .i - 1) origin) (getD (walk (c .before .before .before .before .before .before .before .before .before .before .before .before .args .q)) (c .before .before .before .before .before .before .loop .i) origin)
+stored c =
+    let a = c .before .before .before .before .before .before .loop .inv .4 in
+    let p = c .before .before .before .before .before .before .loop .p in
+    let z = getD (walk (c .before .before .before .before .before .before .before .before .before .before .before .before .args .q)) (c .before .before .before .before .before .before .loop .i - 1) origin in
+    let r = getD (walk (c .before .before .before .before .before .before .before .before .before .before .before .before .args .q)) (c .before .before .before .before .before .before .loop .i) origin in
+    ⊎-elim
+    (λ w. w .1 ∙ ap (λ (z : Pt). record { count = p .count + 1; x = set (p .x) (p .count) (z .x); y = set (p .y) (p .count) (z .y) }) a ∙ added p z r (sym (told (c .before)) ∙ unnot _ _ (w .0 .taken)))
+    (λ w. w .1 ∙ skipped p z r (sym (told (c .before)) ∙ unnot _ _ (w .0 .left)))
+    (c .if1 .came)
+
+-- src/polygon.rt:89:13
+mul-n : tie.Need-mul-n Inv-loop μ-loop
+mul-n c = record { fits = omega (arith, c .before .pre .few) }
+
+-- src/polygon.rt:90:9
+corner-at-requires : tie.Need-corner-at-requires Inv-loop μ-loop
+corner-at-requires c κs = (c .before .pre, omega (arith, c .before .pre .some))
+
+-- src/polygon.rt:91:17
 none-requires : tie.Need-none-requires Inv-loop μ-loop
 none-requires c κs = tt
 
--- src/polygon.rt:90:5
+-- src/polygon.rt:95:5
 loop-holds : tie.Need-loop-holds Inv-loop μ-loop
-loop-holds c = let m = c .before .pre in (m, refl, omega arith, omega (arith, m .some), begun (c .before .args .q) m (c .none .ensures))
+loop-holds c = let m = c .before .before .before .before .before .pre in (m, omega arith, omega (arith, m .some), begun (c .before .before .before .before .before .args .q) m (c .before .before .none .ensures), point (c .before .before .before .corner-at .ensures))
 
--- src/polygon.rt:90:15
-mul-loop : tie.Need-mul-loop Inv-loop μ-loop
-mul-loop c = record { fits = omega (arith, c .loop .inv .0 .few) }
-
--- src/polygon.rt:91:30
-sub-corner-at : tie.Need-sub-corner-at Inv-loop μ-loop
-sub-corner-at c = c .before .loop .inv .2
-
--- src/polygon.rt:91:13
-corner-at-requires : tie.Need-corner-at-requires Inv-loop μ-loop
-corner-at-requires c κs = (c .before .loop .inv .0, omega (arith, c .loop-test .taken, c .before .loop .inv .2))
-
--- src/polygon.rt:92:13
+-- src/polygon.rt:96:13
 corner-at-requires-2 : tie.Need-corner-at-requires-2 Inv-loop μ-loop
-corner-at-requires-2 c κs = (c .before .before .loop .inv .0, c .before .loop-test .taken)
+corner-at-requires-2 c κs = (c .before .loop .inv .0, c .loop-test .taken)
 
--- src/polygon.rt:93:9
-push-requires : tie.Need-push-requires Inv-loop μ-loop
-push-requires c κs = let i = c .before .before .before .before .before .before .before .loop .inv in room (i .4) (omega (arith, i .0 .few, c .before .before .before .before .before .before .loop-test .taken))
+-- src/polygon.rt:97:13
+equal-requires : tie.Need-equal-requires Inv-loop μ-loop
+equal-requires c κs = tt
 
--- src/polygon.rt:94:9
+-- src/polygon.rt:99:13
+element-set-from-ax : tie.Need-element-set-from-ax Inv-loop μ-loop
+element-set-from-ax c = place c
+
+-- src/polygon.rt:100:13
+element-set-from-ay : tie.Need-element-set-from-ay Inv-loop μ-loop
+element-set-from-ay c = place c
+
+-- src/polygon.rt:101:23
+add-p : tie.Need-add-p Inv-loop μ-loop
+add-p c = record { fits = omega (arith, place c) }
+
+-- src/polygon.rt:105:9
 add-i : tie.Need-add-i Inv-loop μ-loop
-add-i c = let i = c .before .before .before .before .before .before .before .before .loop .inv in record { fits = omega (arith, i .0 .few, c .before .before .before .before .before .before .before .loop-test .taken) }
+add-i c = record { fits = omega (arith, c .before .before .before .before .before .before .before .before .loop .inv .0 .few, c .before .before .before .before .before .before .before .loop-test .taken) }
 
--- src/polygon.rt:90:5
+-- src/polygon.rt:95:5
 loop-less : tie.Need-loop-less Inv-loop μ-loop
 loop-less c = omega (arith, c .before .before .before .before .before .before .before .loop-test .taken)
 
--- src/polygon.rt:90:5
+-- src/polygon.rt:95:5
 loop-again : tie.Need-loop-again Inv-loop μ-loop
 loop-again c =
     let i = c .before .before .before .before .before .before .before .before .loop .inv in
     let t = c .before .before .before .before .before .before .before .loop-test .taken in
-    let a = c .before .before .before .before .before .before .corner-at .ensures in
-    let b = c .before .before .before .before .before .corner-at2 .ensures in
-    (i .0, refl, omega arith, omega (arith, t), further (c .before .before .before .before .before .before .before .before .before .before .args .q) (i .0) (i .4) (i .2) t (c .push .ensures ∙ ap₂ (pushed (c .before .before .before .before .before .before .before .before .loop .p)) (point a) (point b)))
+    let d : c .before .before .before .before .before .before .before .before .loop .i + 1 - 1 ≡ c .before .before .before .before .before .before .before .before .loop .i = omega arith in
+    (i .0, omega arith, omega (arith, t), further (c .before .before .before .before .before .before .before .before .before .before .before .before .before .before .args .q) (i .0) (i .3) (i .1) t (stored (c .before .before)), rw d (point (c .before .before .before .before .before .before .corner-at2 .ensures)))
 
--- src/polygon.rt:96:26
-mul-corner-at : tie.Need-mul-corner-at Inv-loop μ-loop
-mul-corner-at c = record { fits = omega (arith, c .before .loop .inv .0 .few) }
+-- src/polygon.rt:107:5
+push-requires : tie.Need-push-requires Inv-loop μ-loop
+push-requires c κs = let i = c .before .before .before .loop .inv in room (i .3) (omega (arith, i .0 .few, i .2))
 
--- src/polygon.rt:96:26
-sub-corner-at-2 : tie.Need-sub-corner-at-2 Inv-loop μ-loop
-sub-corner-at-2 c = omega (arith, c .before .loop .inv .0 .some)
-
--- src/polygon.rt:96:9
-corner-at-requires-3 : tie.Need-corner-at-requires-3 Inv-loop μ-loop
-corner-at-requires-3 c κs = (c .before .loop .inv .0, omega (arith, c .before .loop .inv .0 .some))
-
--- src/polygon.rt:97:9
-corner-at-requires-4 : tie.Need-corner-at-requires-4 Inv-loop μ-loop
-corner-at-requires-4 c κs = (c .before .before .loop .inv .0, omega (arith, c .before .before .loop .inv .0 .some))
-
--- src/polygon.rt:98:5
-push-requires-2 : tie.Need-push-requires-2 Inv-loop μ-loop
-push-requires-2 c κs = let i = c .before .before .before .before .before .before .before .loop .inv in room (i .4) (omega (arith, i .0 .few, i .3))
-
--- src/polygon.rt:83:1
+-- src/polygon.rt:85:1
 returns : tie.Need-returns Inv-loop μ-loop
 returns c =
-    let i = c .before .before .before .before .before .before .before .before .loop .inv in
-    let a = c .before .before .before .before .before .before .corner-at3 .ensures in
-    let b = c .before .before .before .before .before .corner-at4 .ensures in
-    closing (c .before .before .before .before .before .before .before .before .before .before .args .q) (i .0) (i .4) (omega (arith, i .3, c .before .before .before .before .before .before .before .loop-test .left)) (c .push2 .ensures ∙ ap₂ (pushed (c .before .before .before .before .before .before .before .before .loop .p)) (point a) (point b))
+    let i = c .before .before .before .before .loop .inv in
+    closing (c .before .before .before .before .before .before .before .before .before .before .args .q) (i .0) (i .3) (omega (arith, i .2, c .before .before .before .loop-test .left)) (c .push .ensures ∙ ap₂ (pushed (c .before .before .before .before .loop .p)) (i .4) (point (c .before .before .before .before .before .before .before .before .corner-at .ensures)))
 
 pub mirrored-spec : {M : Type 1} → statement M
 mirrored-spec =
@@ -183,19 +197,17 @@ mirrored-spec =
     (tie.spec
     Inv-loop
     μ-loop
+    mul-n
+    corner-at-requires
     none-requires
     loop-holds
-    mul-loop
-    sub-corner-at
-    corner-at-requires
     corner-at-requires-2
-    push-requires
+    equal-requires
+    element-set-from-ax
+    element-set-from-ay
+    add-p
     add-i
     loop-less
     loop-again
-    mul-corner-at
-    sub-corner-at-2
-    corner-at-requires-3
-    corner-at-requires-4
-    push-requires-2
+    push-requires
     returns)

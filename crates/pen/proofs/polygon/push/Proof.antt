@@ -1,26 +1,15 @@
 -- The two answers are the two cases of the definition.
-use Prim.Native.Nat.{_+_}
-use lib.ListN.{set}
-use Rattle.pen.specs.Mirrored.{pushed}
-use Rattle.pen.specs.Polygon.{Pt}
-use Rattle.pen.specs.declared.Pen.{Pen}
+use Rattle.pen.proofs.Laid.{skipped, added}
 use Rattle.pen.specs.Polygon.{pt, same}
 use Rattle.integers.proofs.Machine.{par}
 use mir.Syntax.{w8}
-use mathlib.Core.Bool.{Bool, true, false, cond}
-use mathlib.Core.Path.{_≡_, refl, sym, ap, ap₂, _∙_}
+use mathlib.Core.Path.{_≡_, sym, ap₂, _∙_}
 use borrow.Author.Needs.{needs}
 use Rattle.pen.proofs.polygon.push.Statement.{statement}
 use Rattle.pen.proofs.polygon.push.Tie as tie
 use Rattle.pen.proofs.polygon.push.Reads as reads
 use Rattle.pen.proofs.polygon.push.Lts as lts
 use Rattle.pen.proofs.polygon.equal.Reads as equal-reads
-
-skipped : (p : Pen) (a b : Pt) → same a b ≡ true → p ≡ pushed p a b
-skipped p a b e = sym (ap (λ (t : Bool). cond t p (record { count = p .count + 1; x = set (p .x) (p .count) (a .x); y = set (p .y) (p .count) (a .y) })) e)
-
-added : (p : Pen) (a b : Pt) → same a b ≡ false → record { count = p .count + 1; x = set (p .x) (p .count) (a .x); y = set (p .y) (p .count) (a .y) } ≡ pushed p a b
-added p a b e = sym (ap (λ (t : Bool). cond t p (record { count = p .count + 1; x = set (p .x) (p .count) (a .x); y = set (p .y) (p .count) (a .y) })) e)
 
 -- what `equal` answered, of the numbers themselves
 told : (c : tie.After-equal) → c .equal .result ≡ same (pt (c .before .args .ax) (c .before .args .ay)) (pt (c .before .args .bx) (c .before .args .by))
