@@ -7,7 +7,8 @@ use lib.ListN.{getD, List·getD-map}
 use Rattle.integers.proofs.Tests.{and-true}
 use Rattle.setting.specs.declared.Setting.{Setting}
 use Rattle.pen.specs.Polygon.{pen}
-use Rattle.pen.specs.Answer.{points, penCorners}
+use Rattle.plane.specs.Point.{points}
+use Rattle.pen.specs.Answer.{penCorners}
 use Rattle.pen.proofs.Laid.{corners-back}
 use Rattle.aperture.specs.declared.Place.{Place}
 use Rattle.aperture.specs.declared.Table.{Table}

@@ -10,7 +10,8 @@ use Rattle.setting.specs.Refusal.{Refusal, number, aperture, inUse}
 use Rattle.setting.specs.Setting.{taken}
 use Rattle.setting.specs.declared.Checked.the-variants as checked·
 use Rattle.setting.specs.Answer.{checkedNumber}
-use Rattle.pen.specs.Polygon.{Pt, pen}
+use Rattle.plane.specs.Point.{Pt}
+use Rattle.pen.specs.Polygon.{pen}
 use Rattle.pen.specs.Answer.{penOf, penCorners}
 use Rattle.aperture.specs.declared.Place.{Place}
 use Rattle.aperture.specs.declared.Table.{Table}

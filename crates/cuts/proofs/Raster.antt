@@ -16,7 +16,7 @@ use Rattle.integers.specs.Compare.{minZ, maxZ}
 use Rattle.integers.specs.Count.{_∈_}
 use Rattle.integers.proofs.Order.{le-trans}
 use Rattle.integers.proofs.Tests.{clash, and-false, and-both, le-true, le-iff, max-l, max-r, max-le, min-l, min-r, le-min}
-use Rattle.pen.specs.Polygon.{Pt}
+use Rattle.plane.specs.Point.{Pt}
 use Rattle.stroke.specs.Sweep.{Seg, segments}
 use Rattle.stroke.specs.Extent.{Span, none, columns, extent}
 use Rattle.extent.specs.Answer.{allowed, answered, extentOf}

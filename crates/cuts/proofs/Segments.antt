@@ -11,7 +11,7 @@ use lib.IntN.{ℤ, pos}
 use borrow.Author.Tests.{le-leb}
 use Rattle.integers.specs.Count.{_∈_}
 use Rattle.integers.proofs.Tests.{and-true}
-use Rattle.pen.specs.Polygon.{Pt, pt}
+use Rattle.plane.specs.Point.{Pt, pt}
 use Rattle.checks.specs.declared.Verdict.the-variants.{Passed}
 use Rattle.checks.specs.Checks.{inRange, coordinateVerdict}
 use Rattle.checks.proofs.Verdicts.{all-good}

@@ -10,7 +10,7 @@ use lib.Dec.{leb}
 use lib.IntN.{pos}
 use lib.ListN.{length, replicate, length-replicate}
 use Rattle.integers.proofs.Tests.{and-true, and-both}
-use Rattle.pen.specs.Polygon.{Pt}
+use Rattle.plane.specs.Point.{Pt}
 use Rattle.checks.specs.Checks.{isSize}
 use Rattle.stroke.specs.Sweep.{segments}
 use Rattle.stroke.specs.Runs.{blackAt}

@@ -8,7 +8,7 @@ use lib.Dec.{leb}
 use lib.ListN.{length, getD, drop}
 use lib.Seq.{drop-cons}
 use Rattle.integers.specs.Count.{_∈_}
-use Rattle.pen.specs.Polygon.{Pt}
+use Rattle.plane.specs.Point.{Pt}
 use Rattle.cuts.specs.declared.cut.Cut.{Cut}
 use Rattle.cuts.specs.declared.cut.Cut.the-variants as cut·
 use Rattle.cuts.specs.declared.Touch.{Touch}

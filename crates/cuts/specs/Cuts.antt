@@ -9,7 +9,7 @@ use lib.ListN.{length, getD, set}
 use lib.IntN.{pos, natAbs, _-ℤ_}
 use lib.Signed.{leZ}
 use Rattle.integers.specs.Compare.{minZ, maxZ}
-use Rattle.pen.specs.Polygon.{Pt}
+use Rattle.plane.specs.Point.{Pt}
 use Rattle.checks.specs.Checks.{isSize}
 use Rattle.stroke.specs.Sweep.{Seg, segments}
 use Rattle.extent.specs.declared.Extent.{Extent}

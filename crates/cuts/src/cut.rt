@@ -7,7 +7,7 @@ ghost use mathlib.Core.Path.{_≡_};
 ghost use Prim.Native.Nat.{ℕ, _+_, _*_, _≤_, _<_};
 ghost use lib.ListN.{length, getD};
 ghost use lib.IntN.{pos};
-ghost use Rattle.pen.specs.Answer.{corners};
+ghost use Rattle.plane.specs.Point.{corners};
 ghost use Rattle.stroke.specs.Sweep.{Seg, segments, pathPoints};
 ghost use Rattle.extent.specs.Answer.{seg};
 ghost use Rattle.extent.specs.declared.Extent.the-variants as extent·;

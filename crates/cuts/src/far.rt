@@ -10,7 +10,7 @@ use crate::further;
 ghost use mathlib.Core.Path.{_≡_};
 ghost use Prim.Native.Nat.{ℕ, suc, min, max, _≤_, _<_};
 ghost use lib.ListN.{length, getD, set};
-ghost use Rattle.pen.specs.Answer.{corners};
+ghost use Rattle.plane.specs.Point.{corners};
 ghost use Rattle.stroke.specs.Sweep.{pathPoints};
 ghost use Rattle.cuts.specs.declared.cut.Cut.the-variants as cut·;
 ghost use Rattle.cuts.specs.Cuts.{cuts, farther, farOf, wider, boundsOf, unbounded};

@@ -7,7 +7,7 @@ ghost use mathlib.Core.Path.{_≡_};
 ghost use mathlib.Core.Bool.{_&&_};
 ghost use Prim.Native.Nat.{max};
 ghost use lib.Dec.{leb};
-ghost use Rattle.pen.specs.Answer.{corners};
+ghost use Rattle.plane.specs.Point.{corners};
 ghost use Rattle.checks.specs.Checks.{isSize};
 ghost use Rattle.stroke.specs.Sweep.{pathPoints};
 ghost use Rattle.cuts.specs.Cuts.{Together, touchIn, together};

@@ -10,7 +10,7 @@ use Rattle.setting.specs.Setting.{Taken, taken, Dx, Dy}
 use Rattle.quarter.specs.NearRoot.{norm, lower, tried, bisect, nearRoot}
 use Rattle.quarter.specs.Cutting.{amount, retained, corners, quarter}
 use Rattle.pen.specs.Polygon.{upAndBack, onceEach, pen}
-use Rattle.pen.specs.Laws.{chain, edges}
+use Rattle.plane.specs.Polygon.{chain, edges}
 use Rattle.setting.proofs.Limits.{taken-iff}
 use Rattle.aperture.specs.Table.{empty, holding, placeOf, defined}
 use Rattle.aperture.specs.Reachable.{Reachable, starts, defines, Holds}

@@ -11,7 +11,8 @@ use lib.IntN.{ℤ, pos}
 use borrow.Author.Tests.{le-leb}
 use Rattle.integers.proofs.Tests.{and-true}
 use Rattle.setting.specs.declared.Setting.{Setting}
-use Rattle.pen.specs.Polygon.{Pt, pen}
+use Rattle.plane.specs.Point.{Pt}
+use Rattle.pen.specs.Polygon.{pen}
 use Rattle.pen.specs.Answer.{penCorners}
 use Rattle.pen.proofs.Laid.{corners-back}
 use Rattle.aperture.specs.declared.Table.{Table}

@@ -8,7 +8,7 @@ use Rattle.setting.specs.Setting.{taken, Dx, Dy}
 use Rattle.quarter.specs.NearRoot.{norm, lower, tried, bisect, nearRoot}
 use Rattle.quarter.specs.Cutting.{amount, retained, corners, quarter}
 use Rattle.pen.specs.Polygon.{upAndBack, onceEach, pen}
-use Rattle.pen.specs.Laws.{chain, edges}
+use Rattle.plane.specs.Polygon.{chain, edges}
 use Rattle.stroke.specs.Sides.{furthest, sides}
 use Rattle.stroke.specs.Black.{kept}
 use Rattle.stroke.specs.Extent.{narrowed, extent}

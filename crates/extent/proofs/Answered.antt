@@ -9,7 +9,7 @@ use borrow.Author.Tests.{leb-true}
 use Rattle.integers.specs.Bound.{Abs}
 use Rattle.integers.proofs.Tests.{and-both, le-true}
 use Rattle.integers.proofs.Bound.{abs-iff}
-use Rattle.pen.specs.Polygon.{Pt}
+use Rattle.plane.specs.Point.{Pt}
 use Rattle.extent.specs.declared.Extent.the-variants as extent·
 use Rattle.extent.specs.declared.side.Ends.{Ends}
 use Rattle.stroke.specs.Sweep.{Seg}

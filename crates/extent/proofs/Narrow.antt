@@ -6,7 +6,7 @@ use lib.Signed.{leZ}
 use Rattle.integers.specs.Orders.{_≼_, _≺_}
 use Rattle.integers.proofs.Order.{le-antisymm, lt-le}
 use Rattle.integers.proofs.Tests.{lt-iff}
-use Rattle.pen.specs.Laws.{Side}
+use Rattle.plane.specs.Polygon.{Side}
 use Rattle.extent.specs.declared.limit.Fraction.{Fraction}
 use Rattle.extent.specs.declared.limit.Limits.{Limits}
 use Rattle.stroke.specs.Sweep.{centre}

@@ -8,9 +8,8 @@ use lib.ListN.{length, getD, drop, drop-of-length-le}
 use lib.Seq.{drop-cons}
 use lib.IntN.{ℤ, pos, negℤ}
 use Rattle.integers.specs.Compare.{maxZ}
-use Rattle.pen.specs.Polygon.{Pt, pt}
-use Rattle.pen.specs.Laws.{dot, reach}
-use Rattle.pen.specs.Answer.{points, corners}
+use Rattle.plane.specs.Point.{Pt, pt, points, corners}
+use Rattle.plane.specs.Polygon.{dot, reach}
 use Rattle.stroke.specs.Sides.{furthest}
 
 abbrev pub origin : Pt

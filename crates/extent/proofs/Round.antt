@@ -9,9 +9,8 @@ use lib.Dec.{ltb}
 use lib.ListN.{length, drop, drop-of-length-le}
 use lib.IntN.{ℤ, negℤ, _-ℤ_}
 use borrow.Author.Tests.{ltb-true, ltb-false}
-use Rattle.pen.specs.Polygon.{Pt, same}
-use Rattle.pen.specs.Laws.{Side, edge, chain, edges}
-use Rattle.pen.specs.Answer.{corners}
+use Rattle.plane.specs.Point.{Pt, same, corners}
+use Rattle.plane.specs.Polygon.{Side, edge, chain, edges}
 use Rattle.stroke.specs.Sweep.{Seg}
 use Rattle.stroke.specs.Sides.{moved, touching, pathSides}
 use Rattle.stroke.specs.Extent.{Left, narrow, narrowed}

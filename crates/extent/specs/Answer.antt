@@ -4,7 +4,7 @@ use mathlib.Core.Bool.{Bool, true, false, _&&_}
 use mathlib.Core.List.{List}
 use lib.Dec.{leb}
 use lib.IntN.{ℤ, pos}
-use Rattle.pen.specs.Polygon.{Pt, pt}
+use Rattle.plane.specs.Point.{Pt, pt}
 use Rattle.extent.specs.declared.Extent.{Extent}
 use Rattle.extent.specs.declared.Extent.the-variants as extent·
 use Rattle.stroke.specs.Sweep.{Seg}

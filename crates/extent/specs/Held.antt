@@ -8,7 +8,7 @@ use lib.IntN.{ℤ, pos, _+ℤ_, _*ℤ_}
 use lib.Signed.{leZ, ltZ}
 use Rattle.integers.specs.Bound.{Abs}
 use Rattle.integers.specs.Floor.{floorDiv}
-use Rattle.pen.specs.Polygon.{pt}
+use Rattle.plane.specs.Point.{pt}
 use Rattle.extent.specs.declared.limit.Fraction.{Fraction}
 use Rattle.extent.specs.declared.limit.Limits.{Limits}
 use Rattle.extent.specs.declared.side.Ends.{Ends}

@@ -10,7 +10,7 @@ use lib.IntN.{ℤ, pos}
 use lib.ListN.{length, drop}
 use Rattle.wire.specs.Write.{encoded}
 use Rattle.wire.proofs.Laws.{encoded-none}
-use Rattle.pen.specs.Polygon.{Pt}
+use Rattle.plane.specs.Point.{Pt}
 use Rattle.pen.specs.Answer.{penCorners}
 use Rattle.stroke.specs.Runs.{Run, rowRuns, blackAt}
 use Rattle.stroke.proofs.Runs.{runs-few}

@@ -9,7 +9,8 @@ use Rattle.setting.specs.declared.Setting.{Setting}
 use Rattle.pen.specs.declared.Built.{Built}
 use Rattle.pen.specs.declared.Pen.{Pen}
 use Rattle.setting.specs.Setting.{taken}
-use Rattle.pen.specs.Polygon.{Pt, pen}
+use Rattle.plane.specs.Point.{Pt}
+use Rattle.pen.specs.Polygon.{pen}
 use Rattle.pen.specs.Answer.{penCorners, built}
 use Rattle.pen.proofs.Laid.{corners-back}
 use Rattle.pen.proofs.Answers.{pen-built, none-built}

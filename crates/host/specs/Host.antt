@@ -10,7 +10,8 @@ use Rattle.wire.specs.Read.{entriesOf}
 use Rattle.setting.specs.declared.Setting.{Setting}
 use Rattle.setting.specs.Refusal.{Refusal, number, setting, path, room}
 use Rattle.setting.specs.Setting.{taken}
-use Rattle.pen.specs.Polygon.{Pt, pen}
+use Rattle.plane.specs.Point.{Pt}
+use Rattle.pen.specs.Polygon.{pen}
 use Rattle.stroke.specs.Runs.{Run, blackAt, rowRuns}
 use Rattle.checks.specs.declared.Verdict.{Verdict}
 use Rattle.checks.specs.declared.Verdict.the-variants.{Passed, Refused}

@@ -8,7 +8,8 @@ use lib.Dec.{leb}
 use lib.ListN.{length, drop}
 use lib.IntN.{ℤ, pos}
 use Rattle.setting.specs.declared.Setting.{Setting}
-use Rattle.pen.specs.Polygon.{Pt, pen}
+use Rattle.plane.specs.Point.{Pt}
+use Rattle.pen.specs.Polygon.{pen}
 use Rattle.setting.specs.Refusal.{number, row, room}
 use Rattle.aperture.specs.declared.Table.{Table}
 use Rattle.aperture.proofs.Held.{held, held-corners}

@@ -14,7 +14,7 @@ ghost use mathlib.Core.List.{_++_};
 ghost use Prim.Native.Nat.{_≤_, _<_};
 ghost use lib.IntN.{pos};
 ghost use lib.ListN.{length, drop};
-ghost use Rattle.pen.specs.Answer.{corners};
+ghost use Rattle.plane.specs.Point.{corners};
 ghost use Rattle.stroke.specs.Runs.{blackAt};
 ghost use Rattle.checks.specs.declared.Verdict.the-variants.{Passed};
 ghost use Rattle.checks.specs.Checks.{coordinateVerdict};

@@ -9,8 +9,9 @@ use Rattle.integers.specs.Orders.{_≼_, _≺_}
 use Rattle.integers.specs.Count.{_∈_}
 use Rattle.integers.proofs.Ring.{ring, reify}
 use Rattle.integers.proofs.Order.{le-or-lt}
-use Rattle.pen.specs.Polygon.{Pt, pt, flipped, turned, upAndBack}
-use Rattle.pen.specs.Laws.{edge}
+use Rattle.plane.specs.Point.{Pt, pt}
+use Rattle.pen.specs.Polygon.{flipped, turned, upAndBack}
+use Rattle.plane.specs.Polygon.{edge}
 use Rattle.pen.proofs.Once.{Linked, linked-map}
 use Rattle.pen.proofs.Images.{onwards, turned-twice}
 use Rattle.pen.proofs.Fits.{Rises, Steps, IsQuarter, Fits, fits-turn, spread, still, slant-inner, slant-thick, upright-inner, upright-thick, level-inner, level-thick}

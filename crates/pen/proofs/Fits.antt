@@ -8,8 +8,9 @@ use Rattle.integers.specs.Orders.{_≼_, _≺_}
 use Rattle.integers.specs.Count.{_∈_}
 use Rattle.integers.proofs.Ring.{ring, reify, _⊢_}
 use Rattle.integers.proofs.Order.{mul-nn, sub-nn, sub-pos, mul-bound}
-use Rattle.pen.specs.Polygon.{Pt, turned}
-use Rattle.pen.specs.Laws.{Side, dot, edge}
+use Rattle.plane.specs.Point.{Pt}
+use Rattle.pen.specs.Polygon.{turned}
+use Rattle.plane.specs.Polygon.{Side, dot, edge}
 
 -- ---- a convex quarter
 -- d is to the right of c and above it, and all corners are on the inner side of the edge between them

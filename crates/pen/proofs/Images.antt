@@ -8,7 +8,8 @@ use lib.IntN.{ℤ, negℤ}
 use native.Mathlib.Omega.{arith}
 use Rattle.integers.specs.Count.{_∈_}
 use Rattle.integers.proofs.Ring.{ring, reify}
-use Rattle.pen.specs.Polygon.{Pt, pt, flipped, turned, upAndBack, around}
+use Rattle.plane.specs.Point.{Pt, pt}
+use Rattle.pen.specs.Polygon.{flipped, turned, upAndBack, around}
 
 -- the elements of a mapped list
 pub map-mem : {A B : Type 0} (f : A → B) (l : List A) {y : B} → y ∈ map f l → (x : A) × (x ∈ l) × (y ≡ f x)

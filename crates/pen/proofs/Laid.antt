@@ -18,8 +18,9 @@ use Rattle.quarter.proofs.Laid.{laid-corner, count-snoc, laid-long, laid-small}
 use Rattle.quarter.proofs.Ranges.{some}
 use Rattle.quarter.proofs.Theorems.{quarter-few, quarter-box}
 use Rattle.pen.specs.declared.Pen.{Pen}
-use Rattle.pen.specs.Polygon.{Pt, pt, same, upward}
-use Rattle.pen.specs.Answer.{points, corners, penOf}
+use Rattle.plane.specs.Point.{Pt, pt, same, points, corners}
+use Rattle.pen.specs.Polygon.{upward}
+use Rattle.pen.specs.Answer.{penOf}
 use Rattle.pen.specs.Mirrored.{pushed, Mirrorable, cornersOf}
 use Rattle.pen.proofs.Images.{map-mem}
 

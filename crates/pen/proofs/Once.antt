@@ -10,8 +10,9 @@ use native.Mathlib.Omega.{arith}
 use Rattle.integers.specs.Compare.{eqZ}
 use Rattle.integers.specs.Count.{_∈_}
 use Rattle.integers.proofs.Tests.{clash, and-both, eqz, eq-iff}
-use Rattle.pen.specs.Polygon.{Pt, pt, same, onceEach}
-use Rattle.pen.specs.Laws.{Side, edge, chain}
+use Rattle.plane.specs.Point.{Pt, pt, same}
+use Rattle.pen.specs.Polygon.{onceEach}
+use Rattle.plane.specs.Polygon.{Side, edge, chain}
 
 -- R holds of each point and the next, and of the last and f
 abbrev pub Linked : (Pt → Pt → Type 0) → Pt → Pt → List Pt → Type 0

@@ -12,8 +12,9 @@ use Rattle.integers.proofs.Ring.{ring, reify, _⊢_}
 use Rattle.setting.specs.declared.Setting.{Setting}
 use Rattle.setting.specs.Setting.{Taken, Dx, Dy}
 use Rattle.quarter.specs.Cutting.{Corner, quarter}
-use Rattle.pen.specs.Polygon.{Pt, upward, upAndBack, around, closed, whole, pen}
-use Rattle.pen.specs.Laws.{dot, edge, PenLaws}
+use Rattle.plane.specs.Point.{Pt}
+use Rattle.pen.specs.Polygon.{upward, upAndBack, around, closed, whole, pen}
+use Rattle.plane.specs.Polygon.{dot, edge, PenLaws}
 use Rattle.setting.proofs.Limits.{box-wide, box-high}
 use Rattle.quarter.proofs.Naturals.{le-pos, lt-pos, diff}
 use Rattle.quarter.proofs.Chain.{Chain, stop, link}

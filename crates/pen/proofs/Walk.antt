@@ -6,8 +6,8 @@ use native.Mathlib.Omega.{arith}
 use lib.ListN.{length, getD, take, List·getD-map, List·getD-append}
 use lib.Seq.{getD-take, length-take-le, getD-append-add}
 use lib.IntN.{ℤ, pos, negℤ}
-use Rattle.pen.specs.Polygon.{Pt, pt, flipped, turned, upAndBack, side, around}
-use Rattle.pen.specs.Answer.{points, corners}
+use Rattle.plane.specs.Point.{Pt, pt, points, corners}
+use Rattle.pen.specs.Polygon.{flipped, turned, upAndBack, side, around}
 use Rattle.quarter.specs.declared.Quarter.{Quarter}
 use Rattle.pen.specs.Mirrored.{origin, cornersOf, Mirrorable}
 use Rattle.pen.proofs.Images.{side-length, around-length}

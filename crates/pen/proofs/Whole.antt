@@ -8,8 +8,9 @@ use Rattle.integers.specs.Orders.{_≼_}
 use Rattle.integers.specs.Count.{_∈_}
 use Rattle.integers.proofs.Ring.{ring, reify}
 use Rattle.integers.proofs.Order.{le-trans}
-use Rattle.pen.specs.Polygon.{Pt, onceEach}
-use Rattle.pen.specs.Laws.{Side, edge, edges, reach, PenLaws}
+use Rattle.plane.specs.Point.{Pt}
+use Rattle.pen.specs.Polygon.{onceEach}
+use Rattle.plane.specs.Polygon.{Side, edge, edges, reach, PenLaws}
 use Rattle.pen.proofs.Once.{Linked, linked-edge, Left, once-linked, once-sub, once-mem}
 use Rattle.pen.proofs.Images.{neg-neg, crossed, onwards, Image, is, isFlipped, isTurned, isCrossed, image-of, image-in, image-crossed, image-flipped}
 use Rattle.pen.proofs.Fits.{Rises, Steps, Low, IsQuarter, Between, Fits, fits-inner}

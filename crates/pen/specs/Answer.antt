@@ -1,8 +1,6 @@
 -- What the code answers: the pen as the code's arrays hold it, and document 01's refusal 1.
-use Prim.Native.Nat.{ℕ}
-use mathlib.Core.List.{List, [], _∷_, map}
-use lib.ListN.{length, take}
-use lib.IntN.{ℤ}
+use mathlib.Core.List.{List, [], map}
+use lib.ListN.{length}
 use Rattle.setting.specs.declared.Setting.{Setting}
 use Rattle.setting.specs.declared.Checked.{Checked}
 use Rattle.setting.specs.declared.Checked.the-variants as checked·
@@ -10,16 +8,8 @@ use Rattle.setting.specs.Answer.{checked, checkedNumber}
 use Rattle.quarter.specs.Answer.{laid}
 use Rattle.pen.specs.declared.Pen.{Pen}
 use Rattle.pen.specs.declared.Built.{Built}
-use Rattle.pen.specs.Polygon.{Pt, pt, pen}
-
--- the points that the first n places of two arrays hold
-unfoldable pub points : List ℤ → List ℤ → List Pt
-points [] ys = []
-points (x ∷ xs) [] = []
-points (x ∷ xs) (y ∷ ys) = pt x y ∷ points xs ys
-
-abbrev pub corners : ℕ → List ℤ → List ℤ → List Pt
-corners n xs ys = points (take n xs) (take n ys)
+use Rattle.plane.specs.Point.{Pt, corners}
+use Rattle.pen.specs.Polygon.{pen}
 
 abbrev pub penOf : List Pt → Pen
 penOf cs = record { count = length cs; x = laid 132 (map (λ z. z .x) cs); y = laid 132 (map (λ z. z .y) cs) }

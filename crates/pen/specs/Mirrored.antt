@@ -9,8 +9,7 @@ use Rattle.integers.specs.Bound.{Abs}
 use Rattle.quarter.specs.declared.Quarter.{Quarter}
 use Rattle.pen.specs.declared.Pen.{Pen}
 use Rattle.pen.specs.declared.polygon.Point.{Point}
-use Rattle.pen.specs.Polygon.{Pt, pt, same}
-use Rattle.pen.specs.Answer.{corners}
+use Rattle.plane.specs.Point.{Pt, pt, same, corners}
 
 abbrev pub origin : Pt
 origin = pt (pos 0) (pos 0)

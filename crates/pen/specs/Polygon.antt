@@ -1,22 +1,12 @@
 -- Document 01, "Building the pen": "the pen is that quarter and its mirror images in both axes, equal corners listed once".
 -- From here on a point has whole coordinates of either sign, y upwards.
-use mathlib.Core.Bool.{Bool, true, false, cond, _&&_}
+use mathlib.Core.Bool.{cond}
 use mathlib.Core.List.{List, [], _∷_, map}
-use lib.IntN.{ℤ, negℤ}
-use Rattle.integers.specs.Compare.{eqZ}
+use lib.IntN.{negℤ}
+use Rattle.plane.specs.Point.{Pt, pt, same}
 use Rattle.setting.specs.declared.Setting.{Setting}
 use Rattle.quarter.specs.Cutting.{Corner, quarter}
 use Rattle.quarter.specs.Answer.{across, upwards}
-
-pub record Pt : Type 0 where
-  pub x : ℤ
-  pub y : ℤ
-
-abbrev pub pt : ℤ → ℤ → Pt
-pt x y = record { x = x; y = y }
-
-abbrev pub same : Pt → Pt → Bool
-same P Q = eqZ (P .x) (Q .x) && eqZ (P .y) (Q .y)
 
 -- a corner of the quarter with its y upwards, as in document 01
 abbrev pub upward : Corner → Pt

@@ -5,7 +5,7 @@ use lib.IntN.{pos}
 use Rattle.setting.specs.declared.Setting.{Setting}
 use Rattle.setting.specs.Setting.{Taken, Dx, Dy}
 use Rattle.pen.specs.Polygon.{pen}
-use Rattle.pen.specs.Laws.{PenLaws}
+use Rattle.plane.specs.Polygon.{PenLaws}
 
 -- the whole has at most 132 corners, and satisfies the laws of a pen: convex, equal to its mirror images, Dx wide and Dy high
 abbrev pub PenFew : Type 0

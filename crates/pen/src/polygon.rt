@@ -6,7 +6,8 @@ ghost use mathlib.Core.List.{[]};
 ghost use Prim.Native.Nat.{_*_, _<_};
 ghost use lib.ListN.{getD};
 ghost use Rattle.integers.specs.Bound.{Abs};
-ghost use Rattle.pen.specs.Polygon.{pt, same, side, around, whole};
+ghost use Rattle.plane.specs.Point.{pt, same};
+ghost use Rattle.pen.specs.Polygon.{side, around, whole};
 ghost use Rattle.pen.specs.Answer.{penOf};
 ghost use Rattle.pen.specs.Mirrored.{Mirrorable, cornersOf, pointOf, pushed, origin};
 

@@ -13,7 +13,8 @@ use Rattle.integers.specs.Bound.{Abs}
 use Rattle.integers.proofs.Bound.{abs-le}
 use Rattle.setting.specs.declared.Setting.{Setting}
 use Rattle.setting.specs.Setting.{Taken, taken, Dx, Dy}
-use Rattle.pen.specs.Polygon.{Pt, pen}
+use Rattle.plane.specs.Point.{Pt}
+use Rattle.pen.specs.Polygon.{pen}
 use Rattle.pen.specs.Answer.{penOf, built}
 use Rattle.pen.proofs.Images.{map-mem}
 use Rattle.quarter.proofs.Laid.{laid-long, laid-small}

@@ -8,8 +8,7 @@ use lib.ListN.{length, take, getD, set, length-set, length-take}
 use lib.Seq.{take-suc, take-suc-set}
 use lib.IntN.{ℤ, pos}
 use Rattle.pen.specs.declared.Pen.{Pen}
-use Rattle.pen.specs.Polygon.{Pt, pt}
-use Rattle.pen.specs.Answer.{points, corners}
+use Rattle.plane.specs.Point.{Pt, pt, points, corners}
 use Rattle.wire.specs.Write.{byteOf}
 use Rattle.pens.specs.Answer.{pairs}
 

@@ -7,8 +7,7 @@ use lib.IntN.{pos}
 use Rattle.integers.specs.Bound.{Abs}
 use Rattle.wire.specs.Write.{byteOf}
 use Rattle.pen.specs.declared.Built.{Built}
-use Rattle.pen.specs.Polygon.{Pt}
-use Rattle.pen.specs.Answer.{corners}
+use Rattle.plane.specs.Point.{Pt, corners}
 
 unfoldable pub pairs : List Pt → List ℕ
 pairs [] = []

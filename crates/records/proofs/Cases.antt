@@ -6,7 +6,7 @@ use mathlib.Core.Logic.{_⊎_, inl, inr}
 use mathlib.Core.List.{List}
 use lib.ListN.{length}
 use lib.IntN.{ℤ, pos}
-use Rattle.pen.specs.Polygon.{Pt}
+use Rattle.plane.specs.Point.{Pt}
 use Rattle.stroke.specs.Runs.{Run, rowRuns, blackAt}
 use Rattle.stroke.proofs.Runs.{runs-few}
 use Rattle.aperture.specs.declared.Table.{Table}

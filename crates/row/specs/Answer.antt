@@ -5,7 +5,7 @@ use mathlib.Core.List.{List, [], _∷_, _++_}
 use lib.Dec.{leb}
 use lib.ListN.{length, drop}
 use lib.IntN.{ℤ}
-use Rattle.pen.specs.Polygon.{Pt}
+use Rattle.plane.specs.Point.{Pt}
 use Rattle.setting.specs.Refusal.{number, room}
 use Rattle.stroke.specs.Sweep.{pathPoints}
 use Rattle.stroke.specs.Runs.{Run, rowRuns}

@@ -10,8 +10,9 @@ use Rattle.setting.specs.declared.Setting.{Setting}
 use Rattle.setting.specs.Setting.{taken, Dx, Dy}
 use Rattle.quarter.specs.NearRoot.{norm, lower, tried, bisect, nearRoot}
 use Rattle.quarter.specs.Cutting.{amount, retained, corners, quarter}
-use Rattle.pen.specs.Polygon.{Pt, pt, same, upward, upAndBack, onceEach, pen}
-use Rattle.pen.specs.Laws.{chain, edges}
+use Rattle.plane.specs.Point.{Pt, pt, same}
+use Rattle.pen.specs.Polygon.{upward, upAndBack, onceEach, pen}
+use Rattle.plane.specs.Polygon.{chain, edges}
 use Rattle.stroke.specs.Sides.{furthest, sides}
 use Rattle.stroke.specs.Black.{kept}
 use Rattle.stroke.specs.Extent.{narrowed, extent}

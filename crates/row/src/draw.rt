@@ -12,7 +12,7 @@ ghost use mathlib.Core.Path.{_≡_};
 ghost use mathlib.Core.List.{[], _∷_};
 ghost use Prim.Native.Nat.{_≤_, _<_};
 ghost use lib.ListN.{length};
-ghost use Rattle.pen.specs.Answer.{corners};
+ghost use Rattle.plane.specs.Point.{corners};
 ghost use Rattle.stroke.specs.Runs.{runsOf, rowRuns};
 ghost use Rattle.checks.specs.declared.Verdict.the-variants.{Passed};
 ghost use Rattle.checks.specs.Checks.{coordinateVerdict};

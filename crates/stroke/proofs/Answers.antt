@@ -5,8 +5,8 @@ use Prim.Native.Nat.{ℕ, _<_}
 use lib.IntN.{ℤ, pos, _+ℤ_}
 use Rattle.integers.specs.Orders.{_≼_, _≺_}
 use Rattle.integers.specs.Count.{Number}
-use Rattle.pen.specs.Polygon.{Pt}
-use Rattle.pen.specs.Laws.{PenLaws}
+use Rattle.plane.specs.Point.{Pt}
+use Rattle.plane.specs.Polygon.{PenLaws}
 use Rattle.stroke.specs.Sweep.{Seg}
 use Rattle.stroke.specs.Runs.{Run}
 use Rattle.stroke.specs.Weight.{Direction, InsideRow, InsideColumn, InRows, offset, BlackPixel}

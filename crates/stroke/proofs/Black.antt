@@ -11,8 +11,8 @@ use Rattle.integers.specs.Count.{_∈_}
 use Rattle.integers.proofs.Ring.{ring, reify}
 use Rattle.integers.proofs.Order.{le-or-lt, le-antisymm, lt-le}
 use Rattle.integers.proofs.Tests.{le-iff, lt-iff, clash}
-use Rattle.pen.specs.Polygon.{Pt}
-use Rattle.pen.specs.Laws.{Side, dot, PenLaws}
+use Rattle.plane.specs.Point.{Pt}
+use Rattle.plane.specs.Polygon.{Side, dot, PenLaws}
 use Rattle.stroke.specs.Sweep.{Seg}
 use Rattle.stroke.specs.Sides.{sides}
 use Rattle.stroke.specs.Black.{kept, Black}

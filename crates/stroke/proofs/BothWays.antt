@@ -9,8 +9,8 @@ use Rattle.integers.specs.Orders.{_≼_, _≺_}
 use Rattle.integers.specs.Count.{_∈_}
 use Rattle.integers.proofs.Ring.{ring, reify, _⊢_}
 use Rattle.integers.proofs.Order.{mul-nn, sub-nn, sub-pos, le-or-lt}
-use Rattle.pen.specs.Polygon.{Pt, pt}
-use Rattle.pen.specs.Laws.{Side, edge, edges, PenLaws}
+use Rattle.plane.specs.Point.{Pt, pt}
+use Rattle.plane.specs.Polygon.{Side, edge, edges, PenLaws}
 use Rattle.stroke.proofs.Corners.{after, before, ends-level}
 
 -- at a corner with x >= 1, where the edge that ends there came from the left and the one that starts there goes left, one of the two rises: else the middle, which lies

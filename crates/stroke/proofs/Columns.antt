@@ -9,8 +9,8 @@ use Rattle.integers.specs.Orders.{_≺_}
 use Rattle.integers.specs.Count.{_∈_}
 use Rattle.integers.proofs.Order.{le-trans, lt-le}
 use Rattle.integers.proofs.Tests.{lez, ltz, clash}
-use Rattle.pen.specs.Polygon.{Pt}
-use Rattle.pen.specs.Laws.{Side, edges, PenLaws}
+use Rattle.plane.specs.Point.{Pt}
+use Rattle.plane.specs.Polygon.{Side, edges, PenLaws}
 use Rattle.stroke.specs.Sweep.{Seg, centre}
 use Rattle.stroke.specs.Sides.{moved, sides}
 use Rattle.stroke.specs.Black.{Black}

@@ -11,8 +11,8 @@ use Rattle.integers.specs.Count.{_∈_}
 use Rattle.integers.proofs.Ring.{ring, reify}
 use Rattle.integers.proofs.Order.{le-refl, le-trans}
 use Rattle.integers.proofs.Tests.{max-case, max-l, max-r}
-use Rattle.pen.specs.Polygon.{Pt, pt}
-use Rattle.pen.specs.Laws.{Side, dot, edge, chain, edges, PenLaws}
+use Rattle.plane.specs.Point.{Pt, pt}
+use Rattle.plane.specs.Polygon.{Side, dot, edge, chain, edges, PenLaws}
 use Rattle.stroke.specs.Sides.{furthest}
 
 -- ---- around the cycle

@@ -8,8 +8,8 @@ use Rattle.integers.specs.Orders.{_≼_, _≺_}
 use Rattle.integers.specs.Count.{_∈_}
 use Rattle.integers.proofs.Ring.{ring, reify, _⊢_}
 use Rattle.integers.proofs.Order.{mul-nn, sub-nn, sub-pos, mul-mono, le-antisymm}
-use Rattle.pen.specs.Polygon.{Pt}
-use Rattle.pen.specs.Laws.{dot, PenLaws}
+use Rattle.plane.specs.Point.{Pt}
+use Rattle.plane.specs.Polygon.{dot, PenLaws}
 use Rattle.stroke.specs.Sides.{furthest}
 use Rattle.stroke.proofs.Signs.{neg-neg, neg-below}
 use Rattle.stroke.proofs.Corners.{furthest-bound, turn, top}

@@ -10,8 +10,8 @@ use Rattle.integers.specs.Count.{_∈_}
 use Rattle.integers.proofs.Ring.{ring, reify, _⊢_}
 use Rattle.integers.proofs.Order.{mul-nn, sub-nn, mul-cancel, le-refl}
 use Rattle.integers.proofs.Tests.{max-l, max-r}
-use Rattle.pen.specs.Polygon.{Pt}
-use Rattle.pen.specs.Laws.{Side, dot, edges, PenLaws}
+use Rattle.plane.specs.Point.{Pt}
+use Rattle.plane.specs.Polygon.{Side, dot, edges, PenLaws}
 use Rattle.stroke.specs.Sweep.{Seg, Sweep}
 use Rattle.stroke.specs.Sides.{moved, furthest, touching, sides}
 use Rattle.stroke.proofs.Sides.{Meets, →each}

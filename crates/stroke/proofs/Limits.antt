@@ -15,7 +15,7 @@ use Rattle.integers.proofs.Ring.{ring, reify}
 use Rattle.integers.proofs.Order.{le-antisymm, le-trans}
 use Rattle.integers.proofs.Tests.{ltz, and-both, max-l, max-r, max-le, min-l, min-r, le-min}
 use Rattle.integers.proofs.Floor.{le-floorDiv}
-use Rattle.pen.specs.Laws.{Side}
+use Rattle.plane.specs.Polygon.{Side}
 use Rattle.stroke.specs.Sweep.{centre}
 use Rattle.stroke.specs.Extent.{within, Limit, free, at, Left, room, upper, lower, narrow, narrowed}
 use Rattle.stroke.proofs.Lists.{cons-all}

@@ -6,8 +6,8 @@ use mathlib.Core.List.{List}
 use lib.IntN.{ℤ}
 use lib.Signed.{leZ}
 use Rattle.integers.proofs.Tests.{le-iff, and-both, clash}
-use Rattle.pen.specs.Polygon.{Pt}
-use Rattle.pen.specs.Laws.{PenLaws}
+use Rattle.plane.specs.Point.{Pt}
+use Rattle.plane.specs.Polygon.{PenLaws}
 use Rattle.stroke.specs.Sweep.{centre, segments}
 use Rattle.stroke.specs.Black.{BlackPath}
 use Rattle.stroke.specs.Extent.{Span, none, columns, In, extent}

@@ -8,8 +8,8 @@ use Rattle.integers.specs.Orders.{_≼_}
 use Rattle.integers.specs.Compare.{minZ, maxZ}
 use Rattle.integers.proofs.Ring.{ring, reify}
 use Rattle.integers.proofs.Tests.{le-iff, max-l, max-r, min-l, min-r}
-use Rattle.pen.specs.Polygon.{Pt}
-use Rattle.pen.specs.Laws.{PenLaws}
+use Rattle.plane.specs.Point.{Pt}
+use Rattle.plane.specs.Polygon.{PenLaws}
 use Rattle.stroke.specs.Sweep.{Seg, centre, Sweep}
 use Rattle.stroke.specs.Sides.{furthest}
 use Rattle.stroke.specs.Extent.{reached}

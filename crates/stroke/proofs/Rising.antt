@@ -16,8 +16,8 @@ use Rattle.integers.specs.Count.{_∈_}
 use Rattle.integers.proofs.Ring.{ring, reify, _⊢_, var}
 use Rattle.integers.proofs.Order.{mul-nn, sub-nn, sub-pos, le-or-lt, le-antisymm, lt-le}
 use Rattle.integers.proofs.Tests.{max-l, max-r, clash}
-use Rattle.pen.specs.Polygon.{Pt, same}
-use Rattle.pen.specs.Laws.{Side, dot, edge, edges, PenLaws}
+use Rattle.plane.specs.Point.{Pt, same}
+use Rattle.plane.specs.Polygon.{Side, dot, edge, edges, PenLaws}
 use Rattle.stroke.specs.Sweep.{Seg}
 use Rattle.stroke.specs.Sides.{moved, furthest, touching}
 use Rattle.stroke.specs.Black.{Black}

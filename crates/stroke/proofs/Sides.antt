@@ -8,8 +8,8 @@ use Rattle.integers.specs.Orders.{_≼_}
 use Rattle.integers.specs.Compare.{eqZ}
 use Rattle.integers.specs.Count.{_∈_}
 use Rattle.integers.proofs.Tests.{and-both, clash, eqz}
-use Rattle.pen.specs.Polygon.{Pt, same}
-use Rattle.pen.specs.Laws.{Side, dot, edges}
+use Rattle.plane.specs.Point.{Pt, same}
+use Rattle.plane.specs.Polygon.{Side, dot, edges}
 use Rattle.stroke.specs.Sweep.{Seg}
 use Rattle.stroke.specs.Sides.{moved, touching, pathSides, sides}
 

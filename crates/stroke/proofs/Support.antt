@@ -8,8 +8,8 @@ use lib.IntN.{ℤ, pos, _+ℤ_, _-ℤ_, _*ℤ_}
 use Rattle.integers.specs.Orders.{_≼_, _≺_}
 use Rattle.integers.proofs.Ring.{ring, reify, _⊢_, var}
 use Rattle.integers.proofs.Order.{mul-nn, sub-nn, mul-cancel, le-or-lt, le-antisymm}
-use Rattle.pen.specs.Polygon.{Pt}
-use Rattle.pen.specs.Laws.{dot, edge, PenLaws}
+use Rattle.plane.specs.Point.{Pt}
+use Rattle.plane.specs.Polygon.{dot, edge, PenLaws}
 use Rattle.stroke.specs.Sweep.{InPen}
 use Rattle.stroke.specs.Sides.{furthest}
 use Rattle.stroke.proofs.Corners.{after, before, ends-level, furthest-bound, furthest-nn, top}

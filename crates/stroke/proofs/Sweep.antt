@@ -16,8 +16,8 @@ use Rattle.integers.specs.Count.{_∈_}
 use Rattle.integers.proofs.Ring.{ring, reify, _⊢_, var}
 use Rattle.integers.proofs.Order.{mul-nn, sub-nn, le-or-lt, lt-le}
 use Rattle.integers.proofs.Tests.{max-case}
-use Rattle.pen.specs.Polygon.{Pt, same}
-use Rattle.pen.specs.Laws.{Side, dot, edges, PenLaws}
+use Rattle.plane.specs.Point.{Pt, same}
+use Rattle.plane.specs.Polygon.{Side, dot, edges, PenLaws}
 use Rattle.stroke.specs.Sweep.{Seg, Sweep}
 use Rattle.stroke.specs.Sides.{furthest, touching, sides}
 use Rattle.stroke.proofs.Corners.{top}

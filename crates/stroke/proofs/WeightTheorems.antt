@@ -7,7 +7,7 @@ use lib.Dec.{T}
 use lib.IntN.{ℤ, pos}
 use Rattle.integers.proofs.Tests.{clash}
 use Rattle.integers.proofs.Count.{number-iff}
-use Rattle.pen.specs.Polygon.{Pt}
+use Rattle.plane.specs.Point.{Pt}
 use Rattle.stroke.specs.Sweep.{Seg, centre}
 use Rattle.stroke.specs.Black.{Black, BlackPath}
 use Rattle.stroke.specs.Runs.{blackAt}

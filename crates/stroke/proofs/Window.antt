@@ -14,7 +14,7 @@ use Rattle.integers.proofs.Ring.{ring, reify, here, _⊢_, var}
 use Rattle.integers.proofs.Floor.{fdiv, fdiv-lo, fdiv-hi, fdiv-unique}
 use Rattle.integers.proofs.Count.{In, interval, number-iff, number-map}
 use Rattle.integers.proofs.Bezout.{bezout}
-use Rattle.pen.specs.Polygon.{Pt}
+use Rattle.plane.specs.Point.{Pt}
 use Rattle.stroke.specs.Sweep.{centre}
 use Rattle.stroke.specs.Weight.{Pixel, InRows}
 

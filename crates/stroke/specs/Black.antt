@@ -6,8 +6,8 @@ use lib.IntN.{ℤ, pos, negℤ}
 use lib.Signed.{ltZ}
 use Rattle.integers.specs.Orders.{_≺_}
 use Rattle.integers.specs.Count.{_∈_}
-use Rattle.pen.specs.Polygon.{Pt}
-use Rattle.pen.specs.Laws.{Side, dot}
+use Rattle.plane.specs.Point.{Pt}
+use Rattle.plane.specs.Polygon.{Side, dot}
 use Rattle.stroke.specs.Sweep.{Seg, Sweep, segments}
 use Rattle.stroke.specs.Sides.{sides}
 

@@ -7,8 +7,8 @@ use lib.Signed.{leZ, ltZ}
 use Rattle.integers.specs.Orders.{_≼_}
 use Rattle.integers.specs.Compare.{minZ, maxZ}
 use Rattle.integers.specs.Floor.{floorDiv}
-use Rattle.pen.specs.Polygon.{Pt}
-use Rattle.pen.specs.Laws.{Side, dot, reach}
+use Rattle.plane.specs.Point.{Pt}
+use Rattle.plane.specs.Polygon.{Side, dot, reach}
 use Rattle.stroke.specs.Sweep.{Seg, centre}
 use Rattle.stroke.specs.Sides.{sides}
 use Rattle.stroke.specs.Black.{kept}

@@ -7,7 +7,7 @@ use lib.Dec.{leb}
 use lib.IntN.{ℤ, pos}
 use lib.Signed.{leZ}
 use mathlib.Core.Bool.{_&&_}
-use Rattle.pen.specs.Polygon.{Pt}
+use Rattle.plane.specs.Point.{Pt}
 use Rattle.stroke.specs.Sweep.{Seg, segments}
 use Rattle.stroke.specs.Extent.{Span, none, columns, extent}
 

@@ -3,8 +3,8 @@ use mathlib.Core.Bool.{cond}
 use mathlib.Core.List.{List, [], _∷_, _++_, map}
 use lib.IntN.{ℤ, pos, negℤ, _+ℤ_, _-ℤ_, _*ℤ_}
 use Rattle.integers.specs.Compare.{maxZ}
-use Rattle.pen.specs.Polygon.{Pt, same}
-use Rattle.pen.specs.Laws.{Side, dot, edges}
+use Rattle.plane.specs.Point.{Pt, same}
+use Rattle.plane.specs.Polygon.{Side, dot, edges}
 use Rattle.stroke.specs.Sweep.{Seg}
 
 -- "the pen's edge lines, each moved to whichever end carries it further out"

@@ -4,8 +4,8 @@ use mathlib.Core.List.{List, [], _∷_}
 use lib.IntN.{ℤ, pos, _-ℤ_, _*ℤ_}
 use Rattle.integers.specs.Orders.{_≼_}
 use Rattle.integers.specs.Count.{_∈_}
-use Rattle.pen.specs.Polygon.{Pt, pt}
-use Rattle.pen.specs.Laws.{Side, dot, edges}
+use Rattle.plane.specs.Point.{Pt, pt}
+use Rattle.plane.specs.Polygon.{Side, dot, edges}
 
 pub record Seg : Type 0 where
   pub from : Pt

@@ -7,8 +7,8 @@ use Prim.Native.Nat.{ℕ}
 use lib.IntN.{ℤ, pos}
 use Rattle.integers.specs.Orders.{_≼_}
 use Rattle.integers.specs.Count.{_∈_}
-use Rattle.pen.specs.Polygon.{Pt}
-use Rattle.pen.specs.Laws.{Side, dot, PenLaws}
+use Rattle.plane.specs.Point.{Pt}
+use Rattle.plane.specs.Polygon.{Side, dot, PenLaws}
 use Rattle.stroke.specs.Sweep.{Seg, centre, Sweep}
 use Rattle.stroke.specs.Sides.{sides}
 use Rattle.stroke.specs.Black.{KeptLaws, Black, BlackPath}

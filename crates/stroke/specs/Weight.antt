@@ -7,8 +7,8 @@ use Rattle.integers.specs.Orders.{_≼_, _≺_}
 use Rattle.integers.specs.Compare.{minZ, maxZ}
 use Rattle.integers.specs.Coprime.{Coprime}
 use Rattle.integers.specs.Count.{Number}
-use Rattle.pen.specs.Polygon.{Pt}
-use Rattle.pen.specs.Laws.{PenLaws}
+use Rattle.plane.specs.Point.{Pt}
+use Rattle.plane.specs.Polygon.{PenLaws}
 use Rattle.stroke.specs.Sweep.{Seg, centre}
 use Rattle.stroke.specs.Sides.{furthest}
 use Rattle.stroke.specs.Black.{BlackPath}

@@ -12,8 +12,7 @@ use mir.Syntax.{w32}
 use mir.Val.{toZ, ofZ}
 use denote.Ref.{now}
 use Rattle.integers.proofs.Machine.{par}
-use Rattle.pen.specs.Polygon.{Pt, pt}
-use Rattle.pen.specs.Answer.{corners}
+use Rattle.plane.specs.Point.{Pt, pt, corners}
 use Rattle.stroke.specs.Sweep.{Seg}
 use Rattle.stroke.specs.Sides.{sides}
 use Rattle.stroke.specs.Extent.{Left, narrowed, spanOf, reached}

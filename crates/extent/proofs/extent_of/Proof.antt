@@ -2,7 +2,7 @@
 use mathlib.Core.Path.{ap₂, _∙_}
 use mir.Syntax.{w32}
 use Rattle.integers.proofs.Machine.{par}
-use Rattle.pen.specs.Polygon.{Pt, pt}
+use Rattle.plane.specs.Point.{Pt, pt}
 use Rattle.pen.specs.Answer.{penCorners}
 use Rattle.extent.specs.Answer.{extentOf}
 use borrow.Author.Needs.{needs}

@@ -12,7 +12,8 @@ use Rattle.quarter.specs.Cutting.{quarter}
 use Rattle.quarter.specs.Answer.{quarterOf, cornered}
 use Rattle.quarter.proofs.Cornered.{cornered-taken}
 use Rattle.pen.specs.declared.Pen.{Pen}
-use Rattle.pen.specs.Polygon.{Pt, whole, pen}
+use Rattle.plane.specs.Point.{Pt}
+use Rattle.pen.specs.Polygon.{whole, pen}
 use Rattle.pen.specs.Answer.{penOf, built}
 use Rattle.pen.specs.Mirrored.{cornersOf, Mirrorable}
 use Rattle.pen.proofs.Laid.{quarter-back, mirrorable}

@@ -8,8 +8,7 @@ use Rattle.cuts.specs.Cuts.{cutTo, extentIn, cuts}
 use Rattle.cuts.proofs.Raster.{cut-place, cut-bounds}
 use Rattle.stroke.specs.Sweep.{Seg, segments}
 use Rattle.stroke.specs.Extent.{columns, extent}
-use Rattle.pen.specs.Polygon.{Pt}
-use Rattle.pen.specs.Answer.{corners}
+use Rattle.plane.specs.Point.{Pt, corners}
 use mir.Syntax.{Width, w32, w64}
 use mir.Val.{toZ, ofZ, hbits}
 use lib.Signed.{mag}

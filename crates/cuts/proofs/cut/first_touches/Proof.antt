@@ -4,7 +4,7 @@ use Rattle.stroke.specs.Sweep.{pathPoints}
 use Rattle.cuts.specs.declared.cut.Cut.{Cut}
 use Rattle.cuts.specs.declared.Touch.the-variants.{Untouched}
 use Rattle.stroke.specs.Sweep.{segments}
-use Rattle.pen.specs.Answer.{corners}
+use Rattle.plane.specs.Point.{corners}
 use lib.ListN.{length, drop, drop-of-length-le}
 use native.Mathlib.Numerals.{add-one}
 use Rattle.cuts.proofs.Raster.{cuts-long}

@@ -6,7 +6,7 @@ use native.Mathlib.Numerals.{add-one}
 use native.Mathlib.Omega.{arith}
 use lib.IntN.{ℤ}
 use lib.ListN.{length, drop, drop-of-length-le}
-use Rattle.pen.specs.Answer.{corners}
+use Rattle.plane.specs.Point.{corners}
 use Rattle.stroke.specs.Sweep.{segments}
 use Rattle.cuts.specs.declared.cut.Cut.{Cut}
 use Rattle.stroke.specs.Sweep.{pathPoints}

@@ -8,7 +8,7 @@ use mir.Syntax.{w64}
 use Rattle.integers.specs.Orders.{_≺_}
 use Rattle.integers.proofs.Tests.{true-and, false-and}
 use Rattle.integers.proofs.Machine.{Is, known, num, of-nat, mul, mul-fits, sub, sub-fits, weaken, bound, at-return, lt-yes, lt-no}
-use Rattle.pen.specs.Laws.{Side}
+use Rattle.plane.specs.Polygon.{Side}
 use Rattle.extent.specs.declared.limit.Limits.{Limits}
 use Rattle.stroke.specs.Extent.{upper, lower, narrow}
 use Rattle.extent.specs.Held.{lastTo, atMost, atLeast, left, flatLeaves, Steady}

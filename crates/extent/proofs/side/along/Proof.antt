@@ -9,8 +9,7 @@ use denote.Ref.{now}
 use Rattle.integers.specs.Compare.{eqZ}
 use Rattle.integers.proofs.Tests.{and-true, and-false, false-and, eq-iff, not-eqz}
 use Rattle.integers.proofs.Machine.{Is, known, num, sub, sub-fits, bound, eq-yes, eq-bits, eqZ-at}
-use Rattle.pen.specs.Polygon.{pt, same}
-use Rattle.pen.specs.Answer.{corners}
+use Rattle.plane.specs.Point.{pt, same, corners}
 use Rattle.stroke.specs.Sides.{touching}
 use Rattle.stroke.specs.Extent.{Left, narrow}
 use Rattle.extent.specs.Held.{left, ends}

@@ -7,7 +7,7 @@ use mir.Syntax.{w64}
 use Rattle.integers.specs.Compare.{maxZ}
 use Rattle.integers.proofs.Bound.{abs-le}
 use Rattle.integers.proofs.Machine.{Is, known, num, mul, mul-fits, add, add-fits, sub, sub-fits, bound}
-use Rattle.pen.specs.Laws.{Side}
+use Rattle.plane.specs.Polygon.{Side}
 use Rattle.stroke.specs.Extent.{narrow}
 use Rattle.extent.specs.Held.{left}
 use Rattle.extent.proofs.Bits.{bits, _⊕_, _⊖_, _⊗_, greatest, ap₃}

@@ -11,9 +11,8 @@ use borrow.Author.Tests.{ltb-true}
 use mir.Syntax.{w64}
 use denote.Ref.{now}
 use Rattle.integers.proofs.Machine.{Is, bound}
-use Rattle.pen.specs.Polygon.{Pt, pt}
-use Rattle.pen.specs.Laws.{edge, edges}
-use Rattle.pen.specs.Answer.{corners}
+use Rattle.plane.specs.Point.{Pt, pt, corners}
+use Rattle.plane.specs.Polygon.{edge, edges}
 use Rattle.extent.specs.declared.limit.Limits.{Limits}
 use Rattle.stroke.specs.Sweep.{Seg}
 use Rattle.stroke.specs.Sides.{moved}

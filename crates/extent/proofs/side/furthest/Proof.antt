@@ -8,7 +8,7 @@ use mir.Syntax.{w64}
 use mir.Val.{toZ}
 use denote.Ref.{now}
 use Rattle.integers.proofs.Machine.{Is, known, num, weaken, mul, mul-fits, add, add-fits, along, bound}
-use Rattle.pen.specs.Answer.{corners}
+use Rattle.plane.specs.Point.{corners}
 use Rattle.stroke.specs.Sides.{furthest}
 use Rattle.extent.proofs.Bits.{bits, coordinate, greatest}
 use Rattle.extent.proofs.Read.{furthest-none, furthest-more}

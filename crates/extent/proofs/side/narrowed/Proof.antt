@@ -3,8 +3,8 @@ use mathlib.Core.Path.{sym, ap, _∙_}
 use mathlib.Core.List.{map}
 use lib.IntN.{pos}
 use denote.Ref.{now}
-use Rattle.pen.specs.Laws.{edges}
-use Rattle.pen.specs.Answer.{corners}
+use Rattle.plane.specs.Polygon.{edges}
+use Rattle.plane.specs.Point.{corners}
 use Rattle.stroke.specs.Sides.{moved, pathSides, sides}
 use Rattle.stroke.specs.Extent.{narrowed}
 use Rattle.extent.specs.Held.{start, ends}

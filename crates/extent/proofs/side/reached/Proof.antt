@@ -11,8 +11,8 @@ use denote.Ref.{now}
 use Rattle.integers.specs.Compare.{minZ, maxZ}
 use Rattle.integers.proofs.Tests.{true-and, false-and}
 use Rattle.integers.proofs.Machine.{Is, known, num, of-nat, mul, mul-fits, add, add-fits, sub, sub-fits, leZ-at}
-use Rattle.pen.specs.Laws.{reach}
-use Rattle.pen.specs.Answer.{corners}
+use Rattle.plane.specs.Polygon.{reach}
+use Rattle.plane.specs.Point.{corners}
 use Rattle.extent.proofs.Bits.{bits, _⊖_, _⊗_, row-place, greatest, least}
 use borrow.Author.Needs.{needs}
 use Rattle.extent.proofs.side.reached.Statement.{statement}

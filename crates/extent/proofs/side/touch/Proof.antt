@@ -8,8 +8,8 @@ use denote.Ref.{now}
 use Rattle.integers.specs.Bound.{Abs}
 use Rattle.integers.proofs.Bound.{abs-le, abs-fits}
 use Rattle.integers.proofs.Machine.{Is, got, known, num, mul, mul-fits, add, add-fits, bound}
-use Rattle.pen.specs.Laws.{Side}
-use Rattle.pen.specs.Answer.{corners}
+use Rattle.plane.specs.Polygon.{Side}
+use Rattle.plane.specs.Point.{corners}
 use Rattle.stroke.specs.Sides.{furthest}
 use Rattle.stroke.specs.Extent.{narrow}
 use Rattle.extent.specs.Held.{left}

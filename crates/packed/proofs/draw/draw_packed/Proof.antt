@@ -5,7 +5,7 @@ use mathlib.Core.Bool.{Bool}
 use native.Mathlib.Omega.{arith}
 use lib.ListN.{length}
 use lib.IntN.{pos}
-use Rattle.pen.specs.Answer.{corners}
+use Rattle.plane.specs.Point.{corners}
 use Rattle.stroke.specs.Runs.{blackAt}
 use Rattle.stroke.specs.Sweep.{pathPoints}
 use Rattle.checks.proofs.Verdicts.{room-passed}

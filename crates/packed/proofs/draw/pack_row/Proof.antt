@@ -3,7 +3,7 @@ use Prim.Native.Nat.{ℕ}
 use mathlib.Core.Path.{sym, ap, _∙_}
 use mathlib.Core.List.{List, _++_}
 use lib.ListN.{drop}
-use Rattle.pen.specs.Answer.{corners}
+use Rattle.plane.specs.Point.{corners}
 use Rattle.stroke.specs.Sweep.{pathPoints}
 use Rattle.packed.specs.Packed.{packedLength}
 use Rattle.packed.proofs.Drawn.{packed-untouched, packed-touched}

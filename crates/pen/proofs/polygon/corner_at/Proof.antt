@@ -2,7 +2,8 @@
 use mathlib.Core.Path.{_≡_, ap, ap₂, _∙_}
 use native.Mathlib.Omega.{arith}
 use borrow.Author.Needs.{needs}
-use Rattle.pen.specs.Polygon.{pt, turned}
+use Rattle.plane.specs.Point.{pt}
+use Rattle.pen.specs.Polygon.{turned}
 use Rattle.pen.proofs.Opposites.{opposite-fits, opposite, small-opposite}
 use Rattle.pen.proofs.Walk.{right-half, left-half}
 use Rattle.pen.proofs.polygon.corner_at.Statement.{statement}

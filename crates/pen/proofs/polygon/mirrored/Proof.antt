@@ -12,7 +12,8 @@ use native.Mathlib.Numerals.{add-one}
 use lib.Seq.{drop-cons}
 use Rattle.pen.specs.Mirrored.{origin, cornersOf, Mirrorable, pushed}
 use Rattle.pen.specs.Answer.{penOf}
-use Rattle.pen.specs.Polygon.{Pt, pt, same, around, onceEach, closed, whole}
+use Rattle.plane.specs.Point.{Pt, pt, same}
+use Rattle.pen.specs.Polygon.{around, onceEach, closed, whole}
 use Rattle.pen.specs.declared.Pen.{Pen}
 use Rattle.quarter.specs.declared.Quarter.{Quarter}
 use lib.ListN.{length, getD, set, drop, length-append, drop-of-length-le}

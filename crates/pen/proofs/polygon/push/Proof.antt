@@ -1,6 +1,6 @@
 -- The two answers are the two cases of the definition.
 use Rattle.pen.proofs.Laid.{skipped, added}
-use Rattle.pen.specs.Polygon.{pt, same}
+use Rattle.plane.specs.Point.{pt, same}
 use Rattle.integers.proofs.Machine.{par}
 use mir.Syntax.{w8}
 use mathlib.Core.Path.{_≡_, sym, ap₂, _∙_}

@@ -3,7 +3,7 @@ use mathlib.Core.Path.{_≡_, ap₂, _∙_}
 use Prim.Native.Nat.{_*_, _-_, _<_}
 use native.Mathlib.Omega.{arith}
 use borrow.Author.Needs.{needs}
-use Rattle.pen.specs.Polygon.{pt}
+use Rattle.plane.specs.Point.{pt}
 use Rattle.pen.proofs.Opposites.{itself, opposite-fits, opposite, small, small-opposite}
 use Rattle.pen.proofs.Walk.{going-up, going-back}
 use Rattle.pen.proofs.polygon.right_side.Statement.{statement}

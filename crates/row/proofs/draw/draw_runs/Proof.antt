@@ -2,7 +2,7 @@
 use mathlib.Core.Path.{refl, sym, ap, _∙_}
 use mathlib.Core.List.{List, []}
 use native.Mathlib.Omega.{arith}
-use Rattle.pen.specs.Answer.{corners}
+use Rattle.plane.specs.Point.{corners}
 use Rattle.stroke.specs.Runs.{Run}
 use Rattle.stroke.specs.Sweep.{pathPoints}
 use Rattle.row.specs.Answer.{runsResult}

@@ -1,11 +1,12 @@
 -- The count is that of the runs, so the room is known before anything is written.
-use mathlib.Core.Path.{ap, _∙_}
+use mathlib.Core.Path.{_≡_, ap, _∙_}
+use mathlib.Core.List.{List}
 use native.Mathlib.Omega.{arith}
 use Rattle.row.proofs.Drawn.{runs-fit, room-for, no-room}
 use lib.ListN.{length}
 use Prim.Native.Nat.{ℕ, _/_}
 use Rattle.checks.specs.Checks.{roomVerdict}
-use Rattle.stroke.specs.Runs.{runsOf}
+use Rattle.stroke.specs.Runs.{Run, runsOf}
 use Rattle.cuts.specs.Cuts.{blackFar}
 use borrow.Author.Needs.{needs}
 use Rattle.row.proofs.draw.write_far.Statement.{statement}
@@ -15,6 +16,19 @@ use Rattle.checks.proofs.report.Reads as report-reads
 use Rattle.checks.proofs.room_check.Reads as room-check-reads
 use Rattle.row.proofs.runs.count_runs.Reads as count-runs-reads
 use Rattle.row.proofs.runs.write_runs.Reads as write-runs-reads
+
+-- where the room has been checked: the runs of the array, the list as it was lent, and the verdict on the room
+abbrev start : tie.After-room-check → tie.Start
+start c = c .before .before .before .before
+
+abbrev found : tie.After-room-check → List Run
+found c = runsOf (blackFar (start c .args .far .now)) (start c .args .end)
+
+abbrev lent : tie.After-room-check → List ℕ
+lent c = start c .args .runs .now
+
+verdict : (c : tie.After-room-check) → c .room-check .result ≡ roomVerdict (length (found c)) (length (lent c) / 2)
+verdict c = c .room-check .ensures ∙ ap (λ (n : ℕ). roomVerdict n (length (lent c) / 2)) (c .before .count-runs .ensures)
 
 count-runs-requires : tie.Need-count-runs-requires
 count-runs-requires c κs = search needs
@@ -32,12 +46,13 @@ report-requires : tie.Need-report-requires
 report-requires c κs = search needs
 
 returns : tie.Need-returns
-returns c = no-room (runsOf (blackFar (c .before .before .before .before .before .before .before .args .far .now)) (c .before .before .before .before .before .before .before .args .end)) (c .before .before .before .before .before .before .before .args .runs .now) (c .before .before .before .room-check .ensures ∙ ap (λ (n : ℕ). roomVerdict n (length (c .before .before .before .before .before .before .before .args .runs .now) / 2)) (c .before .before .before .before .count-runs .ensures)) (c .before .enum-told2 .given .1) (c .report .ensures)
+returns c = let k = c .before .before .before in no-room (found k) (lent k) (verdict k) (c .before .enum-told2 .given .1) (c .report .ensures)
 
 write-runs-requires : tie.Need-write-runs-requires
 write-runs-requires c κs =
-    let r = room-for (runsOf (blackFar (c .before .before .before .before .before .before .before .args .far .now)) (c .before .before .before .before .before .before .before .args .end)) (c .before .before .before .before .before .before .before .args .runs .now) (c .before .before .before .room-check .ensures ∙ ap (λ (n : ℕ). roomVerdict n (length (c .before .before .before .before .before .before .before .args .runs .now) / 2)) (c .before .before .before .before .count-runs .ensures)) (c .before .enum-told .given .1) in
-    (c .before .before .before .before .before .before .before .pre .0, (c .before .before .before .before .before .before .before .pre .1 .0, (omega (arith, r), c .before .before .before .before .before .before .before .pre .1 .1)))
+    let k = c .before .before .before in
+    let r = room-for (found k) (lent k) (verdict k) (c .before .enum-told .given .1) in
+    (start k .pre .0, (start k .pre .1 .0, (omega (arith, r), start k .pre .1 .1)))
 
 done-requires : tie.Need-done-requires
 done-requires c κs = search needs
@@ -47,8 +62,9 @@ same-length c = search needs
 
 returns-2 : tie.Need-returns-2
 returns-2 c =
-    let r = room-for (runsOf (blackFar (c .before .before .before .before .before .before .before .before .before .before .before .args .far .now)) (c .before .before .before .before .before .before .before .before .before .before .before .args .end)) (c .before .before .before .before .before .before .before .before .before .before .before .args .runs .now) (c .before .before .before .before .before .before .before .room-check .ensures ∙ ap (λ (n : ℕ). roomVerdict n (length (c .before .before .before .before .before .before .before .before .before .before .before .args .runs .now) / 2)) (c .before .before .before .before .before .before .before .before .count-runs .ensures)) (c .before .before .before .before .before .enum-told .given .1) in
-    runs-fit (runsOf (blackFar (c .before .before .before .before .before .before .before .before .before .before .before .args .far .now)) (c .before .before .before .before .before .before .before .before .before .before .before .args .end)) (c .before .before .before .before .before .before .before .before .before .before .before .args .runs .now) r (c .done .ensures ∙ ap (λ (n : ℕ). record { refusal = 0; place = 0; count = n }) (c .before .before .before .before .before .before .before .before .count-runs .ensures)) (c .before .before .before .write-runs .ensures)
+    let k = c .before .before .before .before .before .before .before in
+    let r = room-for (found k) (lent k) (verdict k) (c .before .before .before .before .before .enum-told .given .1) in
+    runs-fit (found k) (lent k) r (c .done .ensures ∙ ap (λ (n : ℕ). record { refusal = 0; place = 0; count = n }) (k .before .count-runs .ensures)) (c .before .before .before .write-runs .ensures)
 
 pub write-far-spec : {M : Type 1} → statement M
 write-far-spec =

@@ -5,7 +5,7 @@ use mathlib.Core.List.{List, [], _∷_}
 use lib.IntN.{ℤ, pos, negℤ, _+ℤ_, _-ℤ_, _*ℤ_}
 use Rattle.integers.specs.Orders.{_≼_}
 use Rattle.integers.specs.Count.{_∈_}
-use Rattle.pen.specs.Polygon.{Pt, pt}
+use Rattle.plane.specs.Point.{Pt, pt}
 
 -- a half plane a x + b y <= c, with the outward normal (a, b)
 pub record Side : Type 0 where

@@ -1,0 +1,1 @@
+// Points, half planes and convex polygons with whole coordinates: definitions alone, no code.
