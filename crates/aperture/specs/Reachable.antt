@@ -1,5 +1,5 @@
 -- Document 01: "only defining and removing change it. Statements speak of tables so made".
-use Prim.Native.Nat.{ℕ, _-_, _<_}
+use Prim.Native.Nat.{ℕ}
 use mathlib.Core.Path.{_≡_}
 use mathlib.Core.Bool.{true, false}
 use lib.ListN.{getD}

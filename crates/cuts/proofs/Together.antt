@@ -11,7 +11,7 @@ use lib.IntN.{pos}
 use lib.ListN.{length, replicate, length-replicate}
 use Rattle.integers.proofs.Tests.{and-true, and-both}
 use Rattle.plane.specs.Point.{Pt}
-use Rattle.checks.specs.Checks.{isSize}
+use Rattle.limits.specs.Sizes.{isSize}
 use Rattle.stroke.specs.Sweep.{segments}
 use Rattle.stroke.specs.Runs.{blackAt}
 use Rattle.cuts.specs.declared.Bounds.{Bounds}

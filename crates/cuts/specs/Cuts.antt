@@ -10,7 +10,7 @@ use lib.IntN.{pos, natAbs, _-ℤ_}
 use lib.Signed.{leZ}
 use Rattle.integers.specs.Compare.{minZ, maxZ}
 use Rattle.plane.specs.Point.{Pt}
-use Rattle.checks.specs.Checks.{isSize}
+use Rattle.limits.specs.Sizes.{isSize}
 use Rattle.stroke.specs.Sweep.{Seg, segments}
 use Rattle.extent.specs.declared.Extent.{Extent}
 use Rattle.extent.specs.declared.Extent.the-variants as extent·

@@ -8,7 +8,7 @@ ghost use mathlib.Core.Bool.{_&&_};
 ghost use Prim.Native.Nat.{max};
 ghost use lib.Dec.{leb};
 ghost use Rattle.plane.specs.Point.{corners};
-ghost use Rattle.checks.specs.Checks.{isSize};
+ghost use Rattle.limits.specs.Sizes.{isSize};
 ghost use Rattle.stroke.specs.Sweep.{pathPoints};
 ghost use Rattle.cuts.specs.Cuts.{Together, touchIn, together};
 
@@ -51,7 +51,7 @@ pub fn touching<'a>(
 ) -> Touch
     ensures { λ r. ⌜ r ≡ touchIn (corners count (now (xs .entry)) (now (ys .entry))) (pathPoints (now (path .entry))) columns row ⌝ }
 {
-    if !checks::is_size(columns as u64) {
+    if !limits::is_size(columns as u64) {
         return Touch::Untouched;
     }
     cut::first_touches(xs, ys, count, path, columns, row)
@@ -80,5 +80,5 @@ pub fn put_together<'a>(
 fn serves(columns: usize, length: usize) -> bool
     ensures { λ r. ⌜ r ≡ (isSize columns && leb columns length) ⌝ }
 {
-    checks::is_size(columns as u64) && columns <= length
+    limits::is_size(columns as u64) && columns <= length
 }

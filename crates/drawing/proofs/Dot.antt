@@ -17,9 +17,10 @@ use Rattle.aperture.specs.Reachable.{Reachable, starts, defines, Holds}
 use Rattle.stroke.specs.Sides.{furthest, sides}
 use Rattle.stroke.specs.Black.{kept}
 use Rattle.stroke.specs.Extent.{narrowed, extent}
-use Rattle.checks.specs.Checks.{inRange, coordinateFrom, verdict}
+use Rattle.limits.specs.Sizes.{inRange}
+use Rattle.checks.specs.Checks.{coordinateFrom, verdict}
 use Rattle.stroke.specs.Runs.{blackAt}
-use Rattle.checks.specs.declared.Verdict.the-variants.{Passed}
+use Rattle.limits.specs.declared.Verdict.the-variants.{Passed}
 use Rattle.stroke.specs.Sweep.{pathPoints}
 use Rattle.packed.specs.Packed.{bitsFrom, bytesFrom, packed}
 use Rattle.pbm.specs.Pbm.{lastDigits, header, topFirst, file}

@@ -20,7 +20,7 @@ use Rattle.aperture.specs.declared.Place.{Place}
 use Rattle.aperture.specs.declared.Looked.the-variants as looking
 use Rattle.aperture.specs.Table.{looked}
 use Rattle.stroke.specs.Runs.{blackAt}
-use Rattle.checks.specs.declared.Verdict.the-variants.{Passed}
+use Rattle.limits.specs.declared.Verdict.the-variants.{Passed}
 use Rattle.checks.specs.Checks.{verdict}
 use Rattle.checks.specs.Answer.{Result}
 use Rattle.stroke.specs.Sweep.{pathPoints}

@@ -8,7 +8,7 @@ use lib.ListN.{length, getD, replicate}
 use lib.Seq.{slice}
 use lib.IntN.{ℤ}
 use Rattle.setting.specs.declared.Setting.{Setting}
-use Rattle.setting.specs.Refusal.{Refusal, number, raster, room}
+use Rattle.limits.specs.Refusal.{Refusal, number, raster, room}
 use Rattle.aperture.specs.declared.Table.{Table}
 use Rattle.aperture.specs.Table.{empty, defined}
 use Rattle.packed.specs.Packed.{packedLength, packedCall}

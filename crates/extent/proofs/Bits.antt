@@ -2,13 +2,15 @@
 use mathlib.Core.Path.{_≡_, sym, ap, ap₂, subst, _∙_}
 use mathlib.Core.Bool.{Bool, cond}
 use mathlib.Core.Logic.{inl, inr}
-use Prim.Native.Nat.{ℕ, _+_, _^_, _≤_}
+use Prim.Native.Nat.{ℕ, _+_, _^_, _≤_, _<_}
+use native.Mathlib.Nat.{le-of-lt}
 use lib.Dec.{T, ltb}
 use lib.IntN.{ℤ, pos, negℤ, _+ℤ_, _-ℤ_, _*ℤ_, +ℤ-idl}
 use mir.Syntax.{Width, w8, w64}
 use mir.Val.{SFits, hbits, toZ, ofZ}
 use mir.Facts.{toZ-ofZ}
 use Rattle.integers.specs.Bound.{Abs}
+use Rattle.limits.specs.Sizes.{rasterMax}
 use Rattle.integers.specs.Compare.{minZ, maxZ}
 use Rattle.integers.proofs.Tests.{max-case, min-case}
 use Rattle.integers.proofs.Bound.{abs-fits}
@@ -59,8 +61,8 @@ pub opposite : {x : ℤ} {m n : ℕ} → Is w64 x m n → T (ltb (0 + n) (2 ^ hb
 opposite {x} p t = along (+ℤ-idl (negℤ x)) (sub (num (pos 0) tt) p t)
 
 -- a row's place, in sixteenths of a pixel
-pub row-place : {j : ℕ} → j ≤ 16383 → Is w64 (pos 16 *ℤ pos j) (bits (pos 16) ⊗ j) 262128
-row-place {j} h = mul (num (pos 16) tt) (of-nat j h tt) tt
+pub row-place : {j : ℕ} → j < rasterMax → Is w64 (pos 16 *ℤ pos j) (bits (pos 16) ⊗ j) 262144
+row-place {j} h = mul (num (pos 16) tt) (of-nat j (le-of-lt h) tt) tt
 
 -- what a test picks
 pub picked : {A : Type 0} {t u : Bool} (x y : A) → t ≡ u → cond t x y ≡ cond u x y

@@ -10,7 +10,7 @@ ghost use mathlib.Core.Logic.{_⊎_};
 ghost use Prim.Native.Nat.{_≤_};
 ghost use Rattle.plane.specs.Point.{corners};
 ghost use Rattle.pen.specs.Answer.{penCorners};
-ghost use Rattle.checks.specs.Checks.{inRange};
+ghost use Rattle.limits.specs.Sizes.{inRange};
 ghost use Rattle.extent.specs.Answer.{allowed, seg, extentOf};
 ghost use Rattle.extent.specs.Held.{ends};
 
@@ -29,7 +29,7 @@ pub enum Extent {
 fn both(x: i32, y: i32) -> bool
     ensures { λ r. ⌜ r ≡ (inRange x && inRange y) ⌝ }
 {
-    checks::in_range(x) && checks::in_range(y)
+    limits::in_range(x) && limits::in_range(y)
 }
 
 // Whether the segment and the row are within the limits: rows count from 0, and a raster has at most
@@ -37,7 +37,7 @@ fn both(x: i32, y: i32) -> bool
 fn allowed(ax: i32, ay: i32, bx: i32, by: i32, row: u64) -> bool
     ensures { λ r. ⌜ r ≡ allowed ax ay bx by row ⌝ }
 {
-    both(ax, ay) && (both(bx, by) && row <= 16383)
+    both(ax, ay) && (both(bx, by) && row < limits::RASTER_MAX as u64)
 }
 
 // The lesser of two counts.

@@ -2,9 +2,10 @@
 // so that a side costs two products and no division.
 use crate::Extent;
 ghost use mathlib.Core.Path.{_≡_};
-ghost use Prim.Native.Nat.{_^_, _≤_};
+ghost use Prim.Native.Nat.{_^_, _<_};
 ghost use lib.IntN.{pos, _+ℤ_};
 ghost use Rattle.integers.specs.Bound.{Abs};
+ghost use Rattle.limits.specs.Sizes.{rasterMax};
 ghost use Rattle.integers.specs.Orders.{_≺_};
 ghost use Rattle.stroke.specs.Black.{kept};
 ghost use Rattle.stroke.specs.Extent.{upper, lower, narrow, spanOf};
@@ -75,7 +76,7 @@ fn leaves(b: i64, c: i64, at: i64) -> bool
 
 // One side more, a x + b y <= c, in the given row. Its room is what a * 16i may reach at most.
 pub fn narrow(s: Limits, a: i64, b: i64, c: i64, row: u64) -> Limits
-    requires { ⌜ Steady s ⌝ ∗ ⌜ Bounded a b c ⌝ ∗ ⌜ row ≤ 16383 ⌝ }
+    requires { ⌜ Steady s ⌝ ∗ ⌜ Bounded a b c ⌝ ∗ ⌜ row < rasterMax ⌝ }
     ensures { λ r. ⌜ left r ≡ narrow (pos row) (record { a = a; b = b; c = c }) (left s) ⌝ ∗ ⌜ Steady r ⌝ }
 {
     let at = b * (16 * (row as i64));

@@ -8,11 +8,12 @@ use integers::min;
 ghost use mathlib.Core.Path.{_≡_};
 ghost use mathlib.Core.Bool.{cond};
 ghost use mathlib.Core.List.{List, map};
-ghost use Prim.Native.Nat.{_+_, _^_, _≤_};
+ghost use Prim.Native.Nat.{_+_, _^_, _≤_, _<_};
 ghost use lib.Dec.{ltb};
 ghost use lib.IntN.{ℤ, pos};
 ghost use lib.ListN.{length};
 ghost use Rattle.integers.specs.Bound.{Abs};
+ghost use Rattle.limits.specs.Sizes.{rasterMax};
 ghost use Rattle.plane.specs.Point.{pt, corners};
 ghost use Rattle.plane.specs.Polygon.{edge, edges, reach};
 ghost use Rattle.stroke.specs.Sides.{moved, furthest, touching, pathSides, sides};
@@ -45,7 +46,7 @@ fn next(i: usize, n: usize) -> usize
 // The edge from the corner P to the corner Q. Its normal is the direction turned right, and its
 // line stands at the end where it lies further out.
 fn edge(s: Limits, g: Ends, row: u64, px: i64, py: i64, qx: i64, qy: i64) -> Limits
-    requires { ⌜ Steady s ⌝ ∗ ⌜ Near g ⌝ ∗ ⌜ row ≤ 16383 ⌝ ∗ ⌜ Abs px 128 × Abs py 128 × Abs qx 128 × Abs qy 128 ⌝ }
+    requires { ⌜ Steady s ⌝ ∗ ⌜ Near g ⌝ ∗ ⌜ row < rasterMax ⌝ ∗ ⌜ Abs px 128 × Abs py 128 × Abs qx 128 × Abs qy 128 ⌝ }
     ensures { λ r. ⌜ left r ≡ narrow (pos row) (moved (ends g) (edge (pt px py) (pt qx qy))) (left s) ⌝ ∗ ⌜ Steady r ⌝ }
 {
     let a = qy - py;
@@ -56,7 +57,7 @@ fn edge(s: Limits, g: Ends, row: u64, px: i64, py: i64, qx: i64, qy: i64) -> Lim
 
 // All edges, counterclockwise from corner 0.
 fn edges<'a>(s: Limits, xs: &'a [i8], ys: &'a [i8], n: usize, g: Ends, row: u64) -> Limits
-    requires { ⌜ Steady s ⌝ ∗ ⌜ Held n (now xs) (now ys) ⌝ ∗ ⌜ Near g ⌝ ∗ ⌜ row ≤ 16383 ⌝ }
+    requires { ⌜ Steady s ⌝ ∗ ⌜ Held n (now xs) (now ys) ⌝ ∗ ⌜ Near g ⌝ ∗ ⌜ row < rasterMax ⌝ }
     ensures { λ r. ⌜ left r ≡ narrowed (pos row) (map (moved (ends g)) (edges (corners n (now (xs .entry)) (now (ys .entry))))) (left s) ⌝ ∗ ⌜ Steady r ⌝ }
 {
     let mut r = s;
@@ -100,7 +101,7 @@ fn touch<'a>(
     b: i64,
     row: u64,
 ) -> Limits
-    requires { ⌜ Steady s ⌝ ∗ ⌜ Held n (now xs) (now ys) ⌝ ∗ ⌜ Near g ⌝ ∗ ⌜ Abs a (2 ^ 19) × Abs b (2 ^ 19) ⌝ ∗ ⌜ row ≤ 16383 ⌝ }
+    requires { ⌜ Steady s ⌝ ∗ ⌜ Held n (now xs) (now ys) ⌝ ∗ ⌜ Near g ⌝ ∗ ⌜ Abs a (2 ^ 19) × Abs b (2 ^ 19) ⌝ ∗ ⌜ row < rasterMax ⌝ }
     ensures { λ r. ⌜ left r ≡ narrow (pos row) (touching (corners n (now (xs .entry)) (now (ys .entry))) (pt (g .ax) (g .ay)) a b) (left s) ⌝ ∗ ⌜ Steady r ⌝ }
 {
     let out = furthest(xs, ys, n, a, b);
@@ -109,7 +110,7 @@ fn touch<'a>(
 
 // The two lines along the path; a dot has none.
 fn along<'a>(s: Limits, xs: &'a [i8], ys: &'a [i8], n: usize, g: Ends, row: u64) -> Limits
-    requires { ⌜ Steady s ⌝ ∗ ⌜ Held n (now xs) (now ys) ⌝ ∗ ⌜ Near g ⌝ ∗ ⌜ row ≤ 16383 ⌝ }
+    requires { ⌜ Steady s ⌝ ∗ ⌜ Held n (now xs) (now ys) ⌝ ∗ ⌜ Near g ⌝ ∗ ⌜ row < rasterMax ⌝ }
     ensures { λ r. ⌜ left r ≡ narrowed (pos row) (pathSides (corners n (now (xs .entry)) (now (ys .entry))) (ends g)) (left s) ⌝ ∗ ⌜ Steady r ⌝ }
 {
     if g.ax == g.bx && g.ay == g.by {
@@ -123,7 +124,7 @@ fn along<'a>(s: Limits, xs: &'a [i8], ys: &'a [i8], n: usize, g: Ends, row: u64)
 
 // What all sides leave.
 pub fn narrowed<'a>(xs: &'a [i8], ys: &'a [i8], n: usize, g: Ends, row: u64) -> Limits
-    requires { ⌜ Held n (now xs) (now ys) ⌝ ∗ ⌜ Near g ⌝ ∗ ⌜ row ≤ 16383 ⌝ }
+    requires { ⌜ Held n (now xs) (now ys) ⌝ ∗ ⌜ Near g ⌝ ∗ ⌜ row < rasterMax ⌝ }
     ensures { λ r. ⌜ left r ≡ narrowed (pos row) (sides (corners n (now (xs .entry)) (now (ys .entry))) (ends g)) start ⌝ ∗ ⌜ Steady r ⌝ }
 {
     let s = edges(all(), xs, ys, n, g, row);
@@ -143,7 +144,7 @@ fn reach(ys: &[i8], n: usize) -> i64
 
 // Whether the row is within the segment's reach.
 pub fn reached(ys: &[i8], n: usize, g: Ends, row: u64) -> bool
-    requires { do ⌜ n ≤ (← ⟦ys.len()⟧) ⌝ ∗ ⌜ Near g ⌝ ∗ ⌜ row ≤ 16383 ⌝ }
+    requires { do ⌜ n ≤ (← ⟦ys.len()⟧) ⌝ ∗ ⌜ Near g ⌝ ∗ ⌜ row < rasterMax ⌝ }
     ensures { λ r. ⌜ ((xs : List ℤ) → n ≤ length xs → r ≡ reached (corners n xs (now (ys .entry))) (ends g) (pos row)) ⌝ }
 {
     let far = 8 * reach(ys, n);

@@ -15,8 +15,8 @@ use Rattle.pen.specs.Answer.{penCorners}
 use Rattle.stroke.specs.Runs.{Run, rowRuns, blackAt}
 use Rattle.stroke.proofs.Runs.{runs-few}
 use Rattle.checks.specs.declared.Answer.{Answer}
-use Rattle.checks.specs.declared.Verdict.{Verdict}
-use Rattle.checks.specs.declared.Verdict.the-variants.{Passed, Refused}
+use Rattle.limits.specs.declared.Verdict.{Verdict}
+use Rattle.limits.specs.declared.Verdict.the-variants.{Passed, Refused}
 use Rattle.checks.specs.Checks.{verdict}
 use Rattle.checks.specs.Answer.{Result}
 use Rattle.stroke.specs.Sweep.{pathPoints}

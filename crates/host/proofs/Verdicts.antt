@@ -9,10 +9,12 @@ use lib.Dec.{leb, ltb, eqb}
 use lib.IntN.{ℤ}
 use lib.ListN.{length}
 use Rattle.integers.proofs.Tests.{and-both, and-false}
-use Rattle.setting.specs.Refusal.{Refusal, number, path, raster, row, coordinate}
-use Rattle.checks.specs.Checks.{inRange, refuse, unless, isSize, pathVerdict, rasterVerdict, rowVerdict, coordinateFrom, coordinateVerdict, _then_, verdict}
-use Rattle.checks.specs.declared.Verdict.{Verdict}
-use Rattle.checks.specs.declared.Verdict.the-variants.{Passed, Refused}
+use Rattle.limits.specs.Refusal.{Refusal, number, path, raster, row, coordinate}
+use Rattle.limits.specs.Sizes.{inRange, isSize}
+use Rattle.limits.specs.Refusal.{refuse, unless, _then_}
+use Rattle.checks.specs.Checks.{pathVerdict, rasterVerdict, rowVerdict, coordinateFrom, coordinateVerdict, verdict}
+use Rattle.limits.specs.declared.Verdict.{Verdict}
+use Rattle.limits.specs.declared.Verdict.the-variants.{Passed, Refused}
 use Rattle.wire.specs.Read.{entriesOf}
 use Rattle.wire.proofs.Entries.{entries-length}
 use Rattle.host.specs.Host.{bytesVerdict}

@@ -10,7 +10,7 @@ use Rattle.wire.specs.Read.{entriesOf}
 use Rattle.wire.specs.Write.{encoded}
 use Rattle.pen.specs.Answer.{penCorners}
 use Rattle.stroke.specs.Runs.{blackAt, rowRuns}
-use Rattle.checks.specs.declared.Verdict.{Verdict}
+use Rattle.limits.specs.declared.Verdict.{Verdict}
 use Rattle.checks.specs.declared.Answer.{Answer}
 use Rattle.checks.specs.Checks.{verdict}
 use Rattle.stroke.specs.Sweep.{pathPoints}

@@ -8,14 +8,15 @@ use lib.ListN.{length, drop}
 use lib.IntN.{pos}
 use Rattle.wire.specs.Read.{entriesOf}
 use Rattle.setting.specs.declared.Setting.{Setting}
-use Rattle.setting.specs.Refusal.{Refusal, number, setting, path, room}
+use Rattle.limits.specs.Refusal.{Refusal, number, setting, path, room}
 use Rattle.setting.specs.Setting.{taken}
 use Rattle.plane.specs.Point.{Pt}
 use Rattle.pen.specs.Polygon.{pen}
 use Rattle.stroke.specs.Runs.{Run, blackAt, rowRuns}
-use Rattle.checks.specs.declared.Verdict.{Verdict}
-use Rattle.checks.specs.declared.Verdict.the-variants.{Passed, Refused}
-use Rattle.checks.specs.Checks.{unless, _then_, verdict}
+use Rattle.limits.specs.declared.Verdict.{Verdict}
+use Rattle.limits.specs.declared.Verdict.the-variants.{Passed, Refused}
+use Rattle.limits.specs.Refusal.{unless, _then_}
+use Rattle.checks.specs.Checks.{verdict}
 use Rattle.stroke.specs.Sweep.{pathPoints}
 use Rattle.packed.specs.Packed.{packed, packedLength}
 

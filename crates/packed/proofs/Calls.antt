@@ -7,8 +7,8 @@ use lib.ListN.{getD}
 use Rattle.pen.specs.Answer.{penCorners}
 use Rattle.plane.specs.Point.{Pt}
 use Rattle.checks.specs.declared.Answer.{Answer}
-use Rattle.checks.specs.declared.Verdict.{Verdict}
-use Rattle.checks.specs.declared.Verdict.the-variants.{Passed, Refused}
+use Rattle.limits.specs.declared.Verdict.{Verdict}
+use Rattle.limits.specs.declared.Verdict.the-variants.{Passed, Refused}
 use Rattle.checks.specs.Checks.{verdict}
 use Rattle.checks.specs.Answer.{answerOf, refusal}
 use Rattle.stroke.specs.Sweep.{pathPoints}

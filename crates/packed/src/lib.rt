@@ -5,7 +5,7 @@
 use aperture::Looked;
 use aperture::Table;
 use checks::Answer;
-use checks::Verdict;
+use limits::Verdict;
 use pen::Pen;
 ghost use mathlib.Core.Path.{_≡_};
 ghost use Rattle.pen.specs.Answer.{penCorners};

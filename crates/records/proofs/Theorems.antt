@@ -13,8 +13,8 @@ use Rattle.aperture.specs.declared.Table.{Table}
 use Rattle.aperture.specs.declared.Looked.{Looked}
 use Rattle.aperture.specs.declared.Looked.the-variants as looked·
 use Rattle.aperture.specs.Table.{looked, cornersAt}
-use Rattle.checks.specs.declared.Verdict.{Verdict}
-use Rattle.checks.specs.declared.Verdict.the-variants as verdict·
+use Rattle.limits.specs.declared.Verdict.{Verdict}
+use Rattle.limits.specs.declared.Verdict.the-variants as verdict·
 use Rattle.checks.specs.Checks.{verdict}
 use Rattle.checks.specs.Answer as plain
 use Rattle.stroke.specs.Sweep.{pathPoints}

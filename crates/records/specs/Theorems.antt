@@ -7,14 +7,14 @@ use mathlib.Core.List.{List, map, _++_}
 use lib.Dec.{leb}
 use lib.ListN.{length, drop}
 use lib.IntN.{ℤ}
-use Rattle.setting.specs.Refusal.{number, aperture, room}
+use Rattle.limits.specs.Refusal.{number, aperture, room}
 use Rattle.stroke.specs.Runs as stroke
 use Rattle.stroke.specs.Runs.{rowRuns}
 use Rattle.aperture.specs.declared.Table.{Table}
 use Rattle.aperture.specs.declared.Looked.the-variants as looked·
 use Rattle.aperture.specs.Table.{looked, cornersAt}
 use Rattle.checks.specs.declared.Answer.{Answer}
-use Rattle.checks.specs.declared.Verdict.the-variants as verdict·
+use Rattle.limits.specs.declared.Verdict.the-variants as verdict·
 use Rattle.checks.specs.Checks.{verdict}
 use Rattle.stroke.specs.Sweep.{pathPoints}
 use Rattle.row.specs.Calls.{rowCall}

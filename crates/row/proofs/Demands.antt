@@ -10,15 +10,14 @@ use lib.IntN.{ℤ}
 use Rattle.setting.specs.declared.Setting.{Setting}
 use Rattle.plane.specs.Point.{Pt}
 use Rattle.pen.specs.Polygon.{pen}
-use Rattle.setting.specs.Refusal.{number, row, room}
+use Rattle.limits.specs.Refusal.{number, row, room}
 use Rattle.aperture.specs.declared.Table.{Table}
 use Rattle.aperture.proofs.Held.{held, held-corners}
 use Rattle.checks.proofs.Verdicts.{NotZero, verdict-not-zero}
-use Rattle.aperture.specs.declared.Looked.the-variants as looking
 use Rattle.checks.specs.Checks.{verdict}
 use Rattle.stroke.specs.Runs.{Run, rowRuns}
-use Rattle.checks.specs.declared.Verdict.{Verdict}
-use Rattle.checks.specs.declared.Verdict.the-variants.{Passed, Refused}
+use Rattle.limits.specs.declared.Verdict.{Verdict}
+use Rattle.limits.specs.declared.Verdict.the-variants.{Passed, Refused}
 use Rattle.checks.specs.declared.Answer.{Answer}
 use Rattle.checks.specs.Answer.{Result, refusal, success}
 use Rattle.stroke.specs.Sweep.{pathPoints}

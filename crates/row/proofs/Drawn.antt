@@ -8,8 +8,8 @@ use lib.IntN.{ℤ}
 use lib.ListN.{length, replicate}
 use Rattle.plane.specs.Point.{Pt}
 use Rattle.checks.specs.declared.Answer.{Answer}
-use Rattle.checks.specs.declared.Verdict.{Verdict}
-use Rattle.checks.specs.declared.Verdict.the-variants.{Passed, Refused}
+use Rattle.limits.specs.declared.Verdict.{Verdict}
+use Rattle.limits.specs.declared.Verdict.the-variants.{Passed, Refused}
 use Rattle.checks.specs.Checks.{coordinateVerdict, roomVerdict}
 use Rattle.checks.specs.Answer.{answerOf}
 use Rattle.checks.proofs.Verdicts.{room-passed, room-refused}

@@ -16,7 +16,8 @@ use Rattle.plane.specs.Polygon.{chain, edges}
 use Rattle.stroke.specs.Sides.{furthest, sides}
 use Rattle.stroke.specs.Black.{kept}
 use Rattle.stroke.specs.Extent.{narrowed, extent}
-use Rattle.checks.specs.Checks.{inRange, coordinateFrom}
+use Rattle.limits.specs.Sizes.{inRange}
+use Rattle.checks.specs.Checks.{coordinateFrom}
 use Rattle.stroke.specs.Runs.{Run, runsFrom, runsOf}
 use Rattle.checks.specs.Answer.{Result, success}
 use Rattle.stroke.specs.Sweep.{pathPoints}

@@ -2,13 +2,14 @@
 use mathlib.Core.Path.{_≡_, sym, ap, subst, _∙_}
 use mathlib.Core.Bool.{true}
 use borrow.Author.Tests.{not-true, not-false}
+use Rattle.limits.specs.declared.Verdict.the-variants.{Passed}
 use Rattle.setting.specs.declared.Setting.{Setting}
 use Rattle.setting.specs.Setting.{Taken, taken}
 use Rattle.setting.proofs.Limits.{taken-iff}
 use Rattle.setting.proofs.Answers.{checked-taken, checked-refused}
 use Rattle.aperture.specs.declared.Place.{Place}
 use Rattle.aperture.specs.declared.Table.{Table}
-use Rattle.aperture.specs.Table.{isNumber, holding, withPlace, done}
+use Rattle.aperture.specs.Table.{isNumber, holding, withPlace, changed}
 use Rattle.aperture.proofs.Answers.{not-number, not-taken, not-free, stores}
 use borrow.Author.Needs.{needs}
 use Rattle.aperture.proofs.define.Statement.{statement}
@@ -62,7 +63,7 @@ returns-4 c =
     let a = c .before .before .before .before .before .before .before .before .before .before .args in
     let k = passed (c .before .before .before .before) in
     let stored = c .with-place .ensures ∙ ap (λ (p : Place). withPlace (a .t) (a .number) p) (c .before .holding .ensures ∙ ap (λ (s : Setting). holding s) (sym (k .1))) in
-    ap (λ (u : Table). done u) stored ∙ sym (stores _ _ _ (numbered (c .before .before .before .before .before .before .before .before)) (k .0) (sym (c .before .before .before .is-used .ensures) ∙ c .before .before .if2 .left))
+    ap (λ (u : Table). changed Passed u (a .t)) stored ∙ sym (stores _ _ _ (numbered (c .before .before .before .before .before .before .before .before)) (k .0) (sym (c .before .before .before .is-used .ensures) ∙ c .before .before .if2 .left))
 
 pub define-spec : {M : Type 1} → statement M
 define-spec =

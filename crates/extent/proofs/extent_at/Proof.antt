@@ -3,7 +3,7 @@ use mathlib.Core.Path.{_≡_, sym, ap, ap₂, _∙_}
 use mathlib.Core.Bool.{true}
 use mathlib.Core.List.{List}
 use mathlib.Core.Logic.{inl, inr, ⊎-elim}
-use Prim.Native.Nat.{_≤_}
+use Prim.Native.Nat.{_≤_, _<_}
 use native.Mathlib.Nat.{le-trans}
 use lib.ListN.{length}
 use lib.IntN.{pos}
@@ -12,6 +12,7 @@ use mir.Syntax.{w32}
 use mir.Val.{toZ, ofZ}
 use denote.Ref.{now}
 use Rattle.integers.proofs.Machine.{par}
+use Rattle.limits.specs.Sizes.{rasterMax}
 use Rattle.plane.specs.Point.{Pt, pt, corners}
 use Rattle.stroke.specs.Sweep.{Seg}
 use Rattle.stroke.specs.Sides.{sides}
@@ -42,7 +43,7 @@ segment c = c .wide .ensures ∙ ends-read (c .before .before .before .before .b
 yes : (c : tie.Else1) → let a = c .before .before .args in allowed (a .ax) (a .ay) (a .bx) (a .by) (a .row) ≡ true
 yes c = sym (told (c .before)) ∙ not-false _ (c .if1 .left)
 
-small : (c : tie.Else1) → c .before .before .args .row ≤ 16383
+small : (c : tie.Else1) → c .before .before .args .row < rasterMax
 small c = let a = c .before .before .args in row-small (a .ax) (a .ay) (a .bx) (a .by) (a .row) (yes c)
 
 near-ends : (c : tie.After-wide) → Near (c .wide .result)

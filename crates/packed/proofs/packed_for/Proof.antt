@@ -6,9 +6,6 @@ use Rattle.packed.proofs.Calls.{packed-refused, packed-passed}
 use borrow.Author.Needs.{needs}
 use Rattle.packed.proofs.packed_for.Statement.{statement}
 use Rattle.packed.proofs.packed_for.Tie as tie
-use Rattle.checks.proofs.check.Reads as check-reads
-use Rattle.checks.proofs.report.Reads as report-reads
-use Rattle.packed.proofs.draw.draw_packed.Reads as draw-packed-reads
 
 check-requires : tie.Need-check-requires
 check-requires c κs = search needs

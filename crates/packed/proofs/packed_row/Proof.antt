@@ -6,9 +6,6 @@ use mathlib.Core.Path.{sym, _∙_}
 use borrow.Author.Needs.{needs}
 use Rattle.packed.proofs.packed_row.Statement.{statement}
 use Rattle.packed.proofs.packed_row.Tie as tie
-use Rattle.aperture.proofs.look_up.Reads as look-up-reads
-use Rattle.checks.proofs.report.Reads as report-reads
-use Rattle.packed.proofs.packed_for.Reads as packed-for-reads
 
 look-up-requires : tie.Need-look-up-requires
 look-up-requires c κs = search needs

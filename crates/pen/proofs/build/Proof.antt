@@ -20,12 +20,6 @@ use Rattle.pen.proofs.Laid.{quarter-back, mirrorable}
 use Rattle.pen.proofs.Answers.{pen-built, none-built}
 use Rattle.pen.proofs.build.Statement.{statement}
 use Rattle.pen.proofs.build.Tie as tie
-use Rattle.pen.proofs.build.Reads as reads
-use Rattle.pen.proofs.build.Lts as lts
-use Rattle.pen.proofs.polygon.mirrored.Reads as mirrored-reads
-use Rattle.pen.proofs.polygon.none.Reads as none-reads
-use Rattle.quarter.proofs.build.Reads as build-reads
-use Rattle.setting.proofs.check.Reads as check-reads
 
 none-of : (σ : Setting) → checked σ ≡ checked·.Refused → {p : Pen} → p ≡ penOf [] → record { refusal = 1; pen = p } ≡ built σ
 none-of σ e h = ap (λ (q : Pen). record { refusal = 1; pen = q }) h ∙ sym (none-built σ (checked-refused σ e))

@@ -11,11 +11,6 @@ use Rattle.quarter.specs.Answer.{quarterOf, cornered}
 use Rattle.quarter.proofs.Cornered.{cornered-taken, cornered-none}
 use Rattle.quarter.proofs.build.Statement.{statement}
 use Rattle.quarter.proofs.build.Tie as tie
-use Rattle.quarter.proofs.build.Reads as reads
-use Rattle.quarter.proofs.build.Lts as lts
-use Rattle.quarter.proofs.corners.none.Reads as none-reads
-use Rattle.quarter.proofs.corners.quarter.Reads as quarter-reads
-use Rattle.setting.proofs.check.Reads as check-reads
 
 -- where the check took t, the setting s is t and within the limits
 abbrev given : tie.After-known-told → Setting

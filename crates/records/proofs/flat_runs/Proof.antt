@@ -17,30 +17,24 @@ use Rattle.records.proofs.flat_runs.Tie as tie
 within : (c : tie.After-entries) → c .entries .result ≤ length (c .before .before .args .list .now)
 within c = omega (arith, c .entries .ensures, entries-in (c .before .before .args .room), c .before .before .pre)
 
--- src/lib.rt:46:9
 entries-requires : tie.Need-entries-requires
 entries-requires c κs = search needs
 
--- src/lib.rt:47:60
 slice-relend-prefix-row-runs : tie.Need-slice-relend-prefix-row-runs
 slice-relend-prefix-row-runs c = within c
 
--- src/lib.rt:47:60
 slice-aggregate-row-runs : tie.Need-slice-aggregate-row-runs
 slice-aggregate-row-runs c = sym (length-take-le (c .before .entries .result) (c .before .before .before .args .list .now) (within (c .before)))
 
--- src/lib.rt:47:5
 row-runs-requires : tie.Need-row-runs-requires
 row-runs-requires c κs = search needs
 
--- src/lib.rt:33:1
 same-length : tie.Need-same-length
 same-length c =
     let d = c .before .before in
     let e = d .before .before in
     length-front (e .before .before .args .list .now) (d .row-runs .last .1 .1 .1 .1 .1 .1 .0) (e .entries .result) (d .row-runs .kept .1 .1 .1 .1 .1 .1 .0)
 
--- src/lib.rt:33:1
 returns : tie.Need-returns
 returns c =
     let d = c .before .before in

@@ -61,13 +61,10 @@ use Rattle.records.proofs.Slot.{clears, room-again, big-lit}
 use Rattle.records.proofs.Run as T
 use Rattle.records.proofs.flat_runs as flat-runs
 use Rattle.records.proofs.flat_runs.Symbol as flat-runs-def
-use Rattle.records.proofs.flat_runs.Symbol.{name as #records·flat-runs}
 use Rattle.records.proofs.flat_runs.Met as flat-runs-thm
 use Rattle.records.proofs.write as write
 use Rattle.records.proofs.write.Symbol as write-def
-use Rattle.records.proofs.write.Symbol.{name as #records·write}
 use Rattle.records.proofs.write.Met as write-thm
-use Rattle.records.proofs.row_records.Key.{name as #records·row-records}
 use Rattle.records.proofs.row_records as row-records
 use Rattle.records.proofs.row_records.Statement as stated
 use Rattle.records.proofs.row_records.Code as code

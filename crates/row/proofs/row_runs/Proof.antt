@@ -6,9 +6,6 @@ use mathlib.Core.Path.{sym, _∙_}
 use borrow.Author.Needs.{needs}
 use Rattle.row.proofs.row_runs.Statement.{statement}
 use Rattle.row.proofs.row_runs.Tie as tie
-use Rattle.aperture.proofs.look_up.Reads as look-up-reads
-use Rattle.checks.proofs.report.Reads as report-reads
-use Rattle.row.proofs.runs_for.Reads as runs-for-reads
 
 look-up-requires : tie.Need-look-up-requires
 look-up-requires c κs = search needs

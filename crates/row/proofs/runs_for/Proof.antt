@@ -6,9 +6,6 @@ use Rattle.row.proofs.Calls.{runs-refused, runs-passed}
 use borrow.Author.Needs.{needs}
 use Rattle.row.proofs.runs_for.Statement.{statement}
 use Rattle.row.proofs.runs_for.Tie as tie
-use Rattle.checks.proofs.check.Reads as check-reads
-use Rattle.checks.proofs.report.Reads as report-reads
-use Rattle.row.proofs.draw.draw_runs.Reads as draw-runs-reads
 
 check-requires : tie.Need-check-requires
 check-requires c κs = search needs

@@ -5,27 +5,21 @@ use borrow.Author.Needs.{needs}
 use Rattle.cuts.proofs.far.mark_cut.Statement.{statement}
 use Rattle.cuts.proofs.far.mark_cut.Tie as tie
 
--- src/draw.rt:59:22
 enum-known-cut : tie.Need-enum-known-cut
 enum-known-cut c = search needs
 
--- src/draw.rt:60:9
 enum-told : tie.Need-enum-told
 enum-told c = search needs
 
--- src/draw.rt:60:9
 returns : tie.Need-returns
 returns c = search needs
 
--- src/draw.rt:62:5
 mark-requires : tie.Need-mark-requires
 mark-requires c κs = let b = c .before .before .before .before .before .pre _ _ (c .before .before .cut .given .1) in (b .0, b .1)
 
--- src/draw.rt:55:1
 same-length : tie.Need-same-length
 same-length c = search needs
 
--- src/draw.rt:55:1
 returns-2 : tie.Need-returns-2
 returns-2 c = c .before .before .mark .ensures ∙ sym (ap (farther (c .before .before .before .before .before .before .before .before .args .far .now)) (c .before .before .before .before .before .cut .given .1))
 

@@ -2,7 +2,7 @@
 use mathlib.Core.Path.{sym, ap, _∙_}
 use borrow.Author.Tests.{not-true, not-false}
 use Rattle.wire.specs.Read.{entriesOf}
-use Rattle.checks.specs.declared.Verdict.{Verdict}
+use Rattle.limits.specs.declared.Verdict.{Verdict}
 use Rattle.host.specs.Host.{bytesVerdict}
 use Rattle.host.specs.Call.{callWith}
 use Rattle.host.proofs.Verdicts.{bytes-refused, bytes-read}

@@ -11,7 +11,6 @@ use Prim.Native.Nat.{ℕ}
 use borrow.Author.Needs.{needs}
 use Rattle.packed.proofs.bytes.pack_column.Statement.{statement}
 use Rattle.packed.proofs.bytes.pack_column.Tie as tie
-use Rattle.cuts.proofs.further.Reads as further-reads
 
 -- a test's answer as a bit
 bit : {t u : Bool} → t ≡ u → _≡_ {A = ℕ} (cond t 1 0) (cond u 1 0)

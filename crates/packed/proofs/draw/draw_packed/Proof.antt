@@ -13,11 +13,6 @@ use Rattle.packed.proofs.Drawn.{packed-fits, no-room}
 use borrow.Author.Needs.{needs}
 use Rattle.packed.proofs.draw.draw_packed.Statement.{statement}
 use Rattle.packed.proofs.draw.draw_packed.Tie as tie
-use Rattle.checks.proofs.done.Reads as done-reads
-use Rattle.checks.proofs.report.Reads as report-reads
-use Rattle.checks.proofs.room_check.Reads as room-check-reads
-use Rattle.packed.proofs.bytes.length_of.Reads as length-of-reads
-use Rattle.packed.proofs.draw.pack_row.Reads as pack-row-reads
 
 -- the columns that the path blackens
 abbrev black : tie.Start → ℕ → Bool

@@ -11,10 +11,6 @@ use Rattle.cuts.proofs.Together.{once-in}
 use borrow.Author.Needs.{needs}
 use Rattle.packed.proofs.draw.pack_row.Statement.{statement}
 use Rattle.packed.proofs.draw.pack_row.Tie as tie
-use Rattle.cuts.proofs.touching.Reads as touching-reads
-use Rattle.packed.proofs.bytes.pack_none.Reads as pack-none-reads
-use Rattle.packed.proofs.bytes.pack_span.Reads as pack-span-reads
-use Rattle.packed.proofs.draw.pack_several.Reads as pack-several-reads
 
 touching-requires : tie.Need-touching-requires
 touching-requires c κs = search needs

@@ -11,8 +11,6 @@ use Rattle.cuts.proofs.Together.{together-bounded}
 use borrow.Author.Needs.{needs}
 use Rattle.packed.proofs.draw.pack_several.Statement.{statement}
 use Rattle.packed.proofs.draw.pack_several.Tie as tie
-use Rattle.cuts.proofs.put_together.Reads as put-together-reads
-use Rattle.packed.proofs.bytes.pack_far.Reads as pack-far-reads
 
 slice-aggregate-put-together : tie.Need-slice-aggregate-put-together
 slice-aggregate-put-together c = search needs

@@ -8,9 +8,6 @@ use Rattle.pen.proofs.Opposites.{opposite-fits, opposite, small-opposit
 use Rattle.pen.proofs.Walk.{right-half, left-half}
 use Rattle.pen.proofs.polygon.corner_at.Statement.{statement}
 use Rattle.pen.proofs.polygon.corner_at.Tie as tie
-use Rattle.pen.proofs.polygon.corner_at.Reads as reads
-use Rattle.pen.proofs.polygon.corner_at.Lts as lts
-use Rattle.pen.proofs.polygon.right_side.Reads as right-side-reads
 
 mul-half : tie.Need-mul-half
 mul-half c = search needs

@@ -25,12 +25,6 @@ use mathlib.Core.Path.{_≡_, refl, sym, ap, ap₂, subst, _∙_}
 use Prim.Native.Nat.{ℕ, suc, _+_, _*_, _-_, _≤_, _<_}
 use Rattle.pen.proofs.polygon.mirrored.Statement.{statement}
 use Rattle.pen.proofs.polygon.mirrored.Tie as tie
-use Rattle.pen.proofs.polygon.mirrored.Reads as reads
-use Rattle.pen.proofs.polygon.mirrored.Lts as lts
-use Rattle.pen.proofs.polygon.corner_at.Reads as corner-at-reads
-use Rattle.pen.proofs.polygon.equal.Reads as equal-reads
-use Rattle.pen.proofs.polygon.none.Reads as none-reads
-use Rattle.pen.proofs.polygon.push.Reads as push-reads
 
 -- the corners pushed so far, and those that are still to come, make the whole polygon
 record Going (q : Quarter) (p : Pen) (i : ℕ) : Type 0 where
@@ -130,51 +124,39 @@ stored c =
     (λ w. w .1 ∙ skipped p z r (sym (told (c .before)) ∙ unnot _ _ (w .0 .left)))
     (c .if1 .came)
 
--- src/polygon.rt:89:13
 mul-n : tie.Need-mul-n Inv-loop μ-loop
 mul-n c = record { fits = omega (arith, c .before .pre .few) }
 
--- src/polygon.rt:90:9
 corner-at-requires : tie.Need-corner-at-requires Inv-loop μ-loop
 corner-at-requires c κs = (c .before .pre, omega (arith, c .before .pre .some))
 
--- src/polygon.rt:91:17
 none-requires : tie.Need-none-requires Inv-loop μ-loop
 none-requires c κs = tt
 
--- src/polygon.rt:95:5
 loop-holds : tie.Need-loop-holds Inv-loop μ-loop
 loop-holds c = let m = c .before .before .before .before .before .pre in (m, omega arith, omega (arith, m .some), begun (c .before .before .before .before .before .args .q) m (c .before .before .none .ensures), point (c .before .before .before .corner-at .ensures))
 
--- src/polygon.rt:96:13
 corner-at-requires-2 : tie.Need-corner-at-requires-2 Inv-loop μ-loop
 corner-at-requires-2 c κs = (c .before .loop .inv .0, c .loop-test .taken)
 
--- src/polygon.rt:97:13
 equal-requires : tie.Need-equal-requires Inv-loop μ-loop
 equal-requires c κs = tt
 
--- src/polygon.rt:99:13
 element-set-from-ax : tie.Need-element-set-from-ax Inv-loop μ-loop
 element-set-from-ax c = place c
 
--- src/polygon.rt:100:13
 element-set-from-ay : tie.Need-element-set-from-ay Inv-loop μ-loop
 element-set-from-ay c = place c
 
--- src/polygon.rt:101:23
 add-p : tie.Need-add-p Inv-loop μ-loop
 add-p c = record { fits = omega (arith, place c) }
 
--- src/polygon.rt:105:9
 add-i : tie.Need-add-i Inv-loop μ-loop
 add-i c = record { fits = omega (arith, c .before .before .before .before .before .before .before .before .loop .inv .0 .few, c .before .before .before .before .before .before .before .loop-test .taken) }
 
--- src/polygon.rt:95:5
 loop-less : tie.Need-loop-less Inv-loop μ-loop
 loop-less c = omega (arith, c .before .before .before .before .before .before .before .loop-test .taken)
 
--- src/polygon.rt:95:5
 loop-again : tie.Need-loop-again Inv-loop μ-loop
 loop-again c =
     let i = c .before .before .before .before .before .before .before .before .loop .inv in
@@ -182,11 +164,9 @@ loop-again c =
     let d : c .before .before .before .before .before .before .before .before .loop .i + 1 - 1 ≡ c .before .before .before .before .before .before .before .before .loop .i = omega arith in
     (i .0, omega arith, omega (arith, t), further (c .before .before .before .before .before .before .before .before .before .before .before .before .before .before .args .q) (i .0) (i .3) (i .1) t (stored (c .before .before)), rw d (point (c .before .before .before .before .before .before .corner-at2 .ensures)))
 
--- src/polygon.rt:107:5
 push-requires : tie.Need-push-requires Inv-loop μ-loop
 push-requires c κs = let i = c .before .before .before .loop .inv in room (i .3) (omega (arith, i .0 .few, i .2))
 
--- src/polygon.rt:85:1
 returns : tie.Need-returns Inv-loop μ-loop
 returns c =
     let i = c .before .before .before .before .loop .inv in

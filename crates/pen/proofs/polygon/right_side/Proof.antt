@@ -8,8 +8,6 @@ use Rattle.pen.proofs.Opposites.{itself, opposite-fits, opposite, small
 use Rattle.pen.proofs.Walk.{going-up, going-back}
 use Rattle.pen.proofs.polygon.right_side.Statement.{statement}
 use Rattle.pen.proofs.polygon.right_side.Tie as tie
-use Rattle.pen.proofs.polygon.right_side.Reads as reads
-use Rattle.pen.proofs.polygon.right_side.Lts as lts
 
 element-copy-out-t9 : tie.Need-element-copy-out-t9
 element-copy-out-t9 c = search needs

@@ -19,13 +19,6 @@ use mathlib.Core.Path.{_≡_, refl, sym, ap, subst, _∙_}
 use Prim.Native.Nat.{ℕ, zero, suc, _+_, _-_, _≤_, _<_}
 use Rattle.quarter.proofs.corners.quarter.Statement.{statement}
 use Rattle.quarter.proofs.corners.quarter.Tie as tie
-use Rattle.quarter.proofs.corners.quarter.Reads as reads
-use Rattle.quarter.proofs.corners.quarter.Lts as lts
-use Rattle.quarter.proofs.corners.begin.Reads as begin-reads
-use Rattle.quarter.proofs.corners.none.Reads as none-reads
-use Rattle.quarter.proofs.corners.put.Reads as put-reads
-use Rattle.quarter.proofs.cut.amount.Reads as amount-reads
-use Rattle.quarter.proofs.cut.step.Reads as step-reads
 
 -- the edges after the corner are those from the stack's top to the array's end
 abbrev at : Work → List Edge → ℕ → State
@@ -123,75 +116,57 @@ module _ {σ : Setting} (τ : Taken σ) {t : Work} {after : List Edge} {top : �
             }
             go (suc d) w k = record { long = long′; high = omega arith; out = h .out; moment = cuts (h .moment) w; list = k ∙ h .list }
 
--- src/corners.rt:81:9
 begin-requires : tie.Need-begin-requires Inv-loop μ-loop
 begin-requires c κs = c .pre
 
--- src/corners.rt:85:9
 none-requires : tie.Need-none-requires Inv-loop μ-loop
 none-requires c κs = tt
 
--- src/corners.rt:86:5
 loop-holds : tie.Need-loop-holds Inv-loop μ-loop
 loop-holds c = let b = c .before .before .begin .ensures in (c .before .before .before .pre, record { long = refl; high = omega arith; out = []; moment = subst (Moment (c .before .before .before .args .s) []) (sym (begun _ _ (b .0) (b .1))) start; list = c .none .ensures })
 
--- src/corners.rt:87:17
 mul-r : tie.Need-mul-r Inv-loop μ-loop
 mul-r c = record { fits = omega (arith, c .loop-test .taken) }
 
--- src/corners.rt:87:17
 array-copy-out-r : tie.Need-array-copy-out-r Inv-loop μ-loop
 array-copy-out-r c = c .loop-test .taken
 
--- src/corners.rt:88:13
 amount-requires : tie.Need-amount-requires Inv-loop μ-loop
 amount-requires c κs = let i = c .before .before .loop .inv in let r = ready (i .0) (i .1) (c .before .loop-test .taken) in (i .0, (r .before, r .after))
 
--- src/corners.rt:89:9
 put-requires : tie.Need-put-requires Inv-loop μ-loop
 put-requires c κs = let i = c .before .before .before .loop .inv in let l = c .before .before .loop-test .taken in let r = ready (i .0) (i .1) l in (place-left (i .0) (i .1) l, (r .x-small, r .y-small))
 
--- src/corners.rt:90:9
 step-requires : tie.Need-step-requires Inv-loop μ-loop
 step-requires c κs = let i = c .before .before .before .before .loop .inv in (i .0, room (i .0) (i .1) (c .before .before .before .loop-test .taken) (c .before .amount .ensures))
 
--- src/corners.rt:93:9
 mul-after : tie.Need-mul-after Inv-loop μ-loop
 mul-after c = record { fits = omega (arith, c .before .before .before .before .before .before .loop-test .taken) }
 
--- src/corners.rt:93:9
 array-set-from-after : tie.Need-array-set-from-after Inv-loop μ-loop
 array-set-from-after c = c .before .before .before .before .before .before .loop-test .taken
 
--- src/corners.rt:94:15
 sub-after : tie.Need-sub-after Inv-loop μ-loop
 sub-after c = let i = c .before .before .before .before .before .before .before .loop .inv in low (i .0) (i .1)
 
--- src/corners.rt:94:9
 mul-after-2 : tie.Need-mul-after-2 Inv-loop μ-loop
 mul-after-2 c = record { fits = omega (arith, c .before .before .before .before .before .before .loop-test .taken) }
 
--- src/corners.rt:94:9
 array-set-from-after-2 : tie.Need-array-set-from-after-2 Inv-loop μ-loop
 array-set-from-after-2 c = omega (arith, c .before .before .before .before .before .before .loop-test .taken)
 
--- src/corners.rt:95:15
 add-top : tie.Need-add-top Inv-loop μ-loop
 add-top c = record { fits = omega (arith, c .before .before .before .before .before .before .loop-test .taken) }
 
--- src/corners.rt:95:15
 sub-top : tie.Need-sub-top Inv-loop μ-loop
 sub-top c = let i = c .before .before .before .before .before .before .before .before .loop .inv in omega (arith, low (i .0) (i .1), c .before .before .before .step .ensures .few)
 
--- src/corners.rt:86:5
 loop-less : tie.Need-loop-less Inv-loop μ-loop
 loop-less c = let i = c .before .before .before .before .before .before .before .before .loop .inv in falls (i .0) (i .1) (c .before .before .before .before .before .before .before .loop-test .taken) (c .before .before .before .before .before .amount .ensures) (c .before .before .before .step .ensures)
 
--- src/corners.rt:86:5
 loop-again : tie.Need-loop-again Inv-loop μ-loop
 loop-again c = let i = c .before .before .before .before .before .before .before .before .loop .inv in (i .0, again (i .0) (i .1) (c .before .before .before .before .before .before .before .loop-test .taken) (c .before .before .before .before .before .amount .ensures) (c .before .before .before .step .ensures) (c .before .before .before .before .put .ensures))
 
--- src/corners.rt:77:1
 returns : tie.Need-returns Inv-loop μ-loop
 returns c = let i = c .before .loop .inv in ended (i .0) (i .1) (c .loop-test .left)
 

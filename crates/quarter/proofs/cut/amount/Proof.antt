@@ -13,9 +13,6 @@ use Rattle.quarter.proofs.Most.{fit}
 use borrow.Author.Needs.{needs}
 use Rattle.quarter.proofs.cut.amount.Statement.{statement}
 use Rattle.quarter.proofs.cut.amount.Tie as tie
-use Rattle.quarter.proofs.cut.least.Reads as least-reads
-use Rattle.quarter.proofs.cut.minus.Reads as minus-reads
-use Rattle.quarter.proofs.root.near_root.Reads as near-root-reads
 
 amount-is : (σ : Setting) (L R : Edge) → L .u * R .v ≤ 1 + L .v * R .u → amount σ L R ≡ min (min (L .l2) (R .l1)) (L .c + R .c - nearRoot σ (L .u + R .u) (L .v + R .v))
 unfolding amount

@@ -9,12 +9,6 @@ use mathlib.Core.Path.{_≡_, ap₂, sym, _∙_}
 use borrow.Author.Needs.{needs}
 use Rattle.quarter.proofs.cut.cut.Statement.{statement}
 use Rattle.quarter.proofs.cut.cut.Tie as tie
-use Rattle.quarter.proofs.cut.cut.Reads as reads
-use Rattle.quarter.proofs.cut.cut.Lts as lts
-use Rattle.quarter.proofs.cut.cut_both.Reads as cut-both-reads
-use Rattle.quarter.proofs.cut.cut_left.Reads as cut-left-reads
-use Rattle.quarter.proofs.cut.cut_new.Reads as cut-new-reads
-use Rattle.quarter.proofs.cut.cut_right.Reads as cut-right-reads
 
 is : (c : tie.Start) (rest : List Edge) {bl br : Bool} → eqb (c .args .d) (size (c .args .t .before)) ≡ bl → eqb (c .args .d) (size (c .args .r)) ≡ br →
     cutBy bl br (c .args .s) (c .args .t .x) (c .args .t .y) (c .args .d) (c .args .t .before) (c .args .r) rest
@@ -23,47 +17,36 @@ is c rest e f =
     let a = c .args in
     sym (ap₂ (λ (bl br : Bool). cutBy bl br (a .s) (a .t .x) (a .t .y) (a .d) (a .t .before) (a .r) rest) e f)
 
--- src/cut.rt:161:13
 add-if1 : tie.Need-add-if1
 add-if1 c = search needs
 
--- src/cut.rt:162:17
 add-if2 : tie.Need-add-if2
 add-if2 c = search needs
 
--- src/cut.rt:163:13
 cut-both-requires : tie.Need-cut-both-requires
 cut-both-requires c κs = search needs
 
--- src/cut.rt:163:13
 returns : tie.Need-returns
 returns c = let s = c .before .before .before .before .before .before in let n = c .cut-both .ensures in record { few = n .few; is = λ rest. n .is rest ∙ is s rest (eq-eqb _ _ (c .before .before .before .if1 .taken)) (eq-eqb _ _ (c .before .if2 .taken)) }
 
--- src/cut.rt:165:9
 cut-left-requires : tie.Need-cut-left-requires
 cut-left-requires c κs = search needs
 
--- src/cut.rt:165:9
 returns-2 : tie.Need-returns-2
 returns-2 c = let s = c .before .before .before .before .before .before in let n = c .cut-left .ensures in record { few = n .few; is = λ rest. n .is rest ∙ is s rest (eq-eqb _ _ (c .before .before .before .if1 .taken)) (ne-eqb _ _ (c .before .if2 .left)) }
 
--- src/cut.rt:167:13
 add-if3 : tie.Need-add-if3
 add-if3 c = search needs
 
--- src/cut.rt:168:9
 cut-right-requires : tie.Need-cut-right-requires
 cut-right-requires c κs = search needs
 
--- src/cut.rt:168:9
 returns-3 : tie.Need-returns-3
 returns-3 c = let s = c .before .before .before .before .before .before in let n = c .cut-right .ensures in record { few = n .few; is = λ rest. n .is rest ∙ is s rest (ne-eqb _ _ (c .before .before .before .if1 .left)) (eq-eqb _ _ (c .before .if3 .taken)) }
 
--- src/cut.rt:170:5
 cut-new-requires : tie.Need-cut-new-requires
 cut-new-requires c κs = search needs
 
--- src/cut.rt:156:1
 returns-4 : tie.Need-returns-4
 returns-4 c = let s = c .before .before .before .before .before .before in let n = c .cut-new .ensures in record { few = n .few; is = λ rest. n .is rest ∙ is s rest (ne-eqb _ _ (c .before .before .before .if1 .left)) (ne-eqb _ _ (c .before .if3 .left)) }
 

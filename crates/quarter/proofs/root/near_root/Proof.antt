@@ -10,8 +10,6 @@ use Rattle.quarter.proofs.Most.{fit}
 use Rattle.quarter.proofs.Halving.{brought, halved-keeps}
 use Rattle.quarter.proofs.root.near_root.Statement.{statement}
 use Rattle.quarter.proofs.root.near_root.Tie as tie
-use Rattle.quarter.proofs.root.halved.Reads as halved-reads
-use Rattle.quarter.proofs.root.norm.Reads as norm-reads
 
 abbrev Inv-loop : tie.InvT-loop
 Inv-loop s u v low high square i₀ i =

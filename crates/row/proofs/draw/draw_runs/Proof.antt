@@ -11,10 +11,6 @@ use Rattle.cuts.proofs.Together.{once-in}
 use borrow.Author.Needs.{needs}
 use Rattle.row.proofs.draw.draw_runs.Statement.{statement}
 use Rattle.row.proofs.draw.draw_runs.Tie as tie
-use Rattle.checks.proofs.done.Reads as done-reads
-use Rattle.cuts.proofs.touching.Reads as touching-reads
-use Rattle.row.proofs.draw.several_runs.Reads as several-runs-reads
-use Rattle.row.proofs.draw.write_single.Reads as write-single-reads
 
 touching-requires : tie.Need-touching-requires
 touching-requires c κs = search needs

@@ -12,8 +12,6 @@ use Rattle.cuts.proofs.Together.{together-bounded}
 use borrow.Author.Needs.{needs}
 use Rattle.row.proofs.draw.several_runs.Statement.{statement}
 use Rattle.row.proofs.draw.several_runs.Tie as tie
-use Rattle.cuts.proofs.put_together.Reads as put-together-reads
-use Rattle.row.proofs.draw.write_far.Reads as write-far-reads
 
 slice-aggregate-put-together : tie.Need-slice-aggregate-put-together
 slice-aggregate-put-together c = search needs

@@ -11,11 +11,6 @@ use Rattle.cuts.specs.Cuts.{blackFar}
 use borrow.Author.Needs.{needs}
 use Rattle.row.proofs.draw.write_far.Statement.{statement}
 use Rattle.row.proofs.draw.write_far.Tie as tie
-use Rattle.checks.proofs.done.Reads as done-reads
-use Rattle.checks.proofs.report.Reads as report-reads
-use Rattle.checks.proofs.room_check.Reads as room-check-reads
-use Rattle.row.proofs.runs.count_runs.Reads as count-runs-reads
-use Rattle.row.proofs.runs.write_runs.Reads as write-runs-reads
 
 -- where the room has been checked: the runs of the array, the list as it was lent, and the verdict on the room
 abbrev start : tie.After-room-check → tie.Start

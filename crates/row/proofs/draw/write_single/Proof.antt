@@ -5,10 +5,6 @@ use mathlib.Core.List.{[], _∷_}
 use borrow.Author.Needs.{needs}
 use Rattle.row.proofs.draw.write_single.Statement.{statement}
 use Rattle.row.proofs.draw.write_single.Tie as tie
-use Rattle.checks.proofs.done.Reads as done-reads
-use Rattle.checks.proofs.report.Reads as report-reads
-use Rattle.checks.proofs.room_check.Reads as room-check-reads
-use Rattle.row.proofs.runs.write_one.Reads as write-one-reads
 
 room-check-requires : tie.Need-room-check-requires
 room-check-requires c κs = search needs
