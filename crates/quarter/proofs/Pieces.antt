@@ -114,7 +114,8 @@ cut-on Lu Lv Ru Rv s x y cl cr d h e f =
     )
 
 -- the new edge N = cutEdge L R s l1 l2 between what is left of L and what follows at its end
-pub between : {D x y : ℕ} (L R : Edge) {rest : List Edge} (s l1 l2 : ℕ) → L .c ≡ L .v * x + L .u * y → R .c ≡ R .v * x + R .u * y → L .u * R .v ≡ suc (L .v * R .u) → l1 + l2 ≡ s → 1 ≤ s → s * L .u ≤ x → s * R .v ≤ y → 1 ≤ L .u → 1 ≤ R .v →
+pub between : {D x y : ℕ} (L R : Edge) {rest : List Edge} (s l1 l2 : ℕ) → L .c ≡ L .v * x + L .u * y → R .c ≡ R .v * x + R .u * y →
+    L .u * R .v ≡ suc (L .v * R .u) → l1 + l2 ≡ s → 1 ≤ s → s * L .u ≤ x → s * R .v ≤ y → 1 ≤ L .u → 1 ≤ R .v →
     L .v * R .u < L .u * R .v →
     After D (L .u + R .u) (L .v + R .v) (x + s * R .u) (y - s * R .v) rest →
     After D (L .u) (L .v) (x - s * L .u) (y + s * L .v) (cutEdge L R s l1 l2 ∷ rest)

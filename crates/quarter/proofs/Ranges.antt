@@ -7,6 +7,7 @@ use lib.ListN.{length}
 use native.Mathlib.Nat.{mul-zero, one-le-mul}
 use native.Mathlib.Omega.{arith}
 use Rattle.integers.specs.Count.{_∈_}
+use Rattle.limits.specs.Sizes.{quarterMax}
 use Rattle.setting.specs.declared.Setting.{Setting}
 use Rattle.setting.specs.Setting.{Taken, Dx, Dy}
 use Rattle.quarter.specs.Cutting.{Corner, quarter}
@@ -68,7 +69,7 @@ some-of h (link l u v {c = c} {cs = cs} r s) = record { first = c; others = cs; 
 
 -- ---- the quarter
 module _ (σ : Setting) (τ : Taken σ) where
-  pub few-corners : length (quarter σ) ≤ 33
+  pub few-corners : length (quarter σ) ≤ quarterMax
   few-corners = omega (arith, count-first (quarter-chain σ τ), box-wide τ .1)
 
   pub in-box : (C : Corner) → C ∈ quarter σ → (C .x ≤ 32) × (C .y ≤ 32)

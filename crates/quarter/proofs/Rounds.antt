@@ -63,7 +63,15 @@ passed-going {D} {y′} x y L R {rest} h r k =
       bottom = λ z. absurd (omega arith);
       turning = h;
       lies = slide-on (R .u) (R .v) (size R) x y (R .c) (omega (arith, r .down)) (r .line);
-      behind = record { right = r .right; up = omega (arith, r .up); level = zero-mul (R .v); long = omega (arith, r .long); turn = omega (arith, r .turn); across = refl; down = omega (arith, r .down) };
+      behind = record {
+        right = r .right;
+        up = omega (arith, r .up);
+        level = zero-mul (R .v);
+        long = omega (arith, r .long);
+        turn = omega (arith, r .turn);
+        across = refl;
+        down = omega (arith, r .down);
+      };
       ahead = subst (λ (z : ℕ). After D (R .u) (R .v) (x + size R * R .u) z rest) ey k;
     }
 

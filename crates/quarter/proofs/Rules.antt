@@ -45,7 +45,9 @@ module _ (σ : Setting) (L R : Edge) where
   reduced b c m eb ec near h r =
       let am : Amount σ L R (minZ (pos b) (pos c -ℤ pos m)) = rw (eb, ec) (some (omega arith) r) in
       record {
-        out = λ e. Out.spent near am (le-trans (minZ (pos b) (pos c -ℤ pos m)) (pos c -ℤ pos m) (pos 0) (min-r (pos b) (pos c -ℤ pos m)) (not-more (pos c) (pos m) (le-pos (omega arith))));
+        out = λ e.
+            let d = pos c -ℤ pos m in
+            Out.spent near am (le-trans (minZ (pos b) d) d (pos 0) (min-r (pos b) d) (not-more (pos c) (pos m) (le-pos (omega arith))));
         taken = λ s e.
             let eq : minZ (pos b) (pos c -ℤ pos m) ≡ pos (suc s) = ap (λ (z : ℤ). minZ (pos b) z) (sym (diff c m (omega arith))) ∙ min-pos b (c - m) ∙ ap pos e in
             (near, subst (Amount σ L R) eq am);

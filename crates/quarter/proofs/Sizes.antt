@@ -4,6 +4,7 @@ use mathlib.Core.Path.{_≡_, subst}
 use mathlib.Core.List.{List, _∷_}
 use native.Mathlib.Nat.{mul-le-mul, mul-comm}
 use native.Mathlib.Omega.{arith}
+use Rattle.limits.specs.Sizes.{quarterMax}
 use Rattle.setting.specs.declared.Setting.{Setting}
 use Rattle.quarter.specs.declared.Edge.{Edge}
 use Rattle.setting.specs.Setting.{Taken, Dx}
@@ -81,10 +82,10 @@ after-small {x = x} {y} hd hy (inner y′ {e = R} r k) =
     }
 
 module _ (σ : Setting) (τ : Taken σ) where
-  pub at-most : {out : List Corner} {t : State} → Moment σ out t → cornersAt out t ≤ 33
+  pub at-most : {out : List Corner} {t : State} → Moment σ out t → cornersAt out t ≤ quarterMax
   at-most {out} {t} m = go (progress σ τ m .stage)
     where
-      go : Stage σ out t → cornersAt out t ≤ 33
+      go : Stage σ out t → cornersAt out t ≤ quarterMax
       go (way g hb few) = omega (arith, out-few out g few, after-few (g .ahead), box-wide τ .1)
       go (over e few) = rw e (omega (arith, box-wide τ .1))
 

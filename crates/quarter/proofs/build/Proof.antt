@@ -7,7 +7,7 @@ use Rattle.setting.specs.Setting.{Taken, taken}
 use Rattle.setting.proofs.Limits.{taken-iff}
 use Rattle.setting.proofs.Answers.{checked-taken, checked-refused}
 use Rattle.quarter.specs.Cutting.{quarter}
-use Rattle.quarter.specs.Answer.{quarterOf, cornered}
+use Rattle.quarter.specs.Answer.{quarterOf}
 use Rattle.quarter.proofs.Cornered.{cornered-taken, cornered-none}
 use Rattle.quarter.proofs.build.Statement.{statement}
 use Rattle.quarter.proofs.build.Tie as tie
