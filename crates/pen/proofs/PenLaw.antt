@@ -9,6 +9,7 @@ use lib.IntN.{ℤ, pos, negℤ, _+ℤ_, _-ℤ_, _*ℤ_}
 use Rattle.integers.specs.Orders.{_≼_, _≺_}
 use Rattle.integers.specs.Count.{_∈_}
 use Rattle.integers.proofs.Ring.{ring, reify, _⊢_}
+use Rattle.limits.specs.Sizes.{penMax}
 use Rattle.setting.specs.declared.Setting.{Setting}
 use Rattle.setting.specs.Setting.{Taken, Dx, Dy}
 use Rattle.quarter.specs.Cutting.{Corner, quarter}
@@ -44,11 +45,15 @@ rises all A B h k = record {
   inner = λ z m.
       let r = map-mem upward all m in
       let C = r .0 in
-      subst (λ (w : Pt). dot (edge (upward A) (upward B) .a) (edge (upward A) (upward B) .b) w ≼ edge (upward A) (upward B) .c) (sym (r .2))
-      (inner (pos (A .x)) (pos (A .y)) (pos (B .x)) (pos (B .y)) (pos (C .x)) (pos (C .y)) (pos (A .y - B .y)) (pos (B .x - A .x)) (diff (A .y) (B .y) (omega arith)) (diff (B .x) (A .x) (omega arith)) (le-pos (k C (r .1))));
+      let e = edge (upward A) (upward B) in
+      let falls = diff (A .y) (B .y) (omega arith) in
+      let goes = diff (B .x) (A .x) (omega arith) in
+      subst (λ (w : Pt). dot (e .a) (e .b) w ≼ e .c) (sym (r .2))
+      (inner (pos (A .x)) (pos (A .y)) (pos (B .x)) (pos (B .y)) (pos (C .x)) (pos (C .y)) (pos (A .y - B .y)) (pos (B .x - A .x)) falls goes (le-pos (k C (r .1))));
 }
 
-steps : {D k pu pv a b : ℕ} (R : Pt → Pt → Type 0) (P : Corner) (l : List Corner) → Chain D k pu pv a b (P ∷ l) → ((A B : Corner) → Adjacent A B (P ∷ l) → R (upward A) (upward B)) → Steps R (pos D) (upward P) (map upward l)
+steps : {D k pu pv a b : ℕ} (R : Pt → Pt → Type 0) (P : Corner) (l : List Corner) → Chain D k pu pv a b (P ∷ l) →
+    ((A B : Corner) → Adjacent A B (P ∷ l) → R (upward A) (upward B)) → Steps R (pos D) (upward P) (map upward l)
 steps R P [] (link l u v r (stop e)) f = ap pos e
 steps R P (Q ∷ ds) (link l u v r s) f = (f P Q here, steps R Q ds s (λ A B n. f A B (there n)))
 
@@ -78,7 +83,7 @@ module _ (σ : Setting) (τ : Taken σ) where
   unfolding pen upAndBack
   is-pen = subst (λ (cs : List Corner). PenLaws (whole (map upward cs)) (pos (Dx σ)) (pos (Dy σ))) (sym (some σ τ .cons)) (pen-of _ _ (pos (Dx σ)) (pos (Dy σ)) is-quarter)
 
-  pub few-of-pen : length (pen σ) ≤ 132
+  pub few-of-pen : length (pen σ) ≤ penMax
   unfolding pen
   few-of-pen = omega (arith, closed-few (around (map upward (quarter σ))), around-length (map upward (quarter σ)), length-map (quarter σ) upward, few-corners σ τ)
     where

@@ -1,5 +1,5 @@
 -- Up the quarter the corner is read as it stands; on the way back its y has the other sign, which is no further out.
-use mathlib.Core.Path.{_≡_, ap₂, _∙_}
+use mathlib.Core.Path.{ap₂, _∙_}
 use Prim.Native.Nat.{_*_, _-_, _<_}
 use native.Mathlib.Omega.{arith}
 use borrow.Author.Needs.{needs}
@@ -22,7 +22,7 @@ returns c =
     let h = c .before .before .if1 .taken in
     let x = p .0 .x-small (a .i) h in
     let y = p .0 .y-small (a .i) h in
-    (ap₂ pt (itself x) (itself y) ∙ going-up (a .t1) (p .0) (a .i) h, (small x, small y))
+    (ap₂ pt (itself x) (itself y) ∙ going-up (a .t1) (p .0) (a .i) h, record { x-small = small x; y-small = small y })
 
 mul-k : tie.Need-mul-k
 mul-k c = search needs
@@ -50,7 +50,7 @@ returns-2 c =
     let h : k < n = omega (arith, s .pre .1) in
     let x = s .pre .0 .x-small k h in
     let y = s .pre .0 .y-small k h in
-    (ap₂ pt (itself x) (opposite y) ∙ going-back (s .args .t1) (s .pre .0) (s .args .i) k h (omega (arith, s .pre .1)), (small x, small-opposite y))
+    (ap₂ pt (itself x) (opposite y) ∙ going-back (s .args .t1) (s .pre .0) (s .args .i) k h (omega (arith, s .pre .1)), record { x-small = small x; y-small = small-opposite y })
 
 pub right-side-spec : {M : Type 1} → statement M
 right-side-spec =
