@@ -16,7 +16,7 @@ use Rattle.setting.specs.Setting.{Taken}
 use Rattle.quarter.specs.Cutting.{Corner, quarter}
 use Rattle.quarter.specs.Answer.{laid, across, upwards, quarterOf}
 use Rattle.quarter.proofs.Laid.{laid-corner, count-snoc, laid-long, laid-small}
-use Rattle.quarter.proofs.Ranges.{some}
+use Rattle.quarter.proofs.Ranges.{quarter-cons}
 use Rattle.quarter.proofs.Theorems.{quarter-few, quarter-box}
 use Rattle.pen.specs.declared.Pen.{Pen}
 use Rattle.plane.specs.Point.{Pt, pt, same, points, corners}
@@ -39,11 +39,11 @@ pushed-pen cs a b h = go (same a b)
     go false = rw (count-snoc cs a, laid-corner penMax (λ (z : Pt). z .x) cs a h, laid-corner penMax (λ (z : Pt). z .y) cs a h)
 
 -- the two cases of a corner more
-pub skipped : (p : Pen) (a b : Pt) → same a b ≡ true → p ≡ pushed p a b
-skipped p a b e = sym (ap (λ (t : Bool). cond t p (record { count = p .count + 1; x = set (p .x) (p .count) (a .x); y = set (p .y) (p .count) (a .y) })) e)
+pub pushed-skipped : (p : Pen) (a b : Pt) → same a b ≡ true → p ≡ pushed p a b
+pushed-skipped p a b e = sym (ap (λ (t : Bool). cond t p (record { count = p .count + 1; x = set (p .x) (p .count) (a .x); y = set (p .y) (p .count) (a .y) })) e)
 
-pub added : (p : Pen) (a b : Pt) → same a b ≡ false → record { count = p .count + 1; x = set (p .x) (p .count) (a .x); y = set (p .y) (p .count) (a .y) } ≡ pushed p a b
-added p a b e = sym (ap (λ (t : Bool). cond t p (record { count = p .count + 1; x = set (p .x) (p .count) (a .x); y = set (p .y) (p .count) (a .y) })) e)
+pub pushed-added : (p : Pen) (a b : Pt) → same a b ≡ false → record { count = p .count + 1; x = set (p .x) (p .count) (a .x); y = set (p .y) (p .count) (a .y) } ≡ pushed p a b
+pushed-added p a b e = sym (ap (λ (t : Bool). cond t p (record { count = p .count + 1; x = set (p .x) (p .count) (a .x); y = set (p .y) (p .count) (a .y) })) e)
 
 -- ---- reading the arrays back gives the points: of two numbers of each element, and so of the quarter's corners and of a list of points
 module _ {A : Type 0} (f g : A → ℤ) where
@@ -77,7 +77,7 @@ module _ (σ : Setting) (τ : Taken σ) where
   mirrorable =
       let few : length (quarter σ) ≤ quarterMax = quarter-few σ τ in
       record {
-        some = subst (λ (l : List Corner). 1 ≤ length l) (sym (some σ τ .cons)) (omega arith);
+        some = subst (λ (l : List Corner). 1 ≤ length l) (sym (quarter-cons σ τ .cons)) (omega arith);
         few = few;
         x-long = laid-long quarterMax across (quarter σ) few;
         y-long = laid-long quarterMax upwards (quarter σ) few;

@@ -4,7 +4,7 @@ use native.Mathlib.Omega.{arith}
 use borrow.Author.Needs.{needs}
 use Rattle.plane.specs.Point.{pt}
 use Rattle.pen.specs.Polygon.{turned}
-use Rattle.pen.proofs.Opposites.{opposite-fits, opposite, small-opposite}
+use Rattle.pen.proofs.Opposites.{i8-opposite-fits, i8-opposite, i8-opposite-small}
 use Rattle.pen.proofs.Walk.{right-half, left-half}
 use Rattle.pen.proofs.polygon.corner_at.Statement.{statement}
 use Rattle.pen.proofs.polygon.corner_at.Tie as tie
@@ -32,10 +32,10 @@ abbrev both-known : tie.After-struct-told2 → tie.After-right-side2
 both-known c = known (c .before .before)
 
 sub-t7 : tie.Need-sub-t7
-sub-t7 c = opposite-fits (known c .right-side2 .ensures .1 .x-small)
+sub-t7 c = i8-opposite-fits (known c .right-side2 .ensures .1 .x-small)
 
 sub-t8 : tie.Need-sub-t8
-sub-t8 c = opposite-fits (both-known c .right-side2 .ensures .1 .y-small)
+sub-t8 c = i8-opposite-fits (both-known c .right-side2 .ensures .1 .y-small)
 
 returns-2 : tie.Need-returns-2
 returns-2 c =
@@ -44,8 +44,8 @@ returns-2 c =
     let r = k .right-side2 .ensures in
     let x = r .1 .x-small in
     let y = r .1 .y-small in (
-      ap₂ pt (opposite x) (opposite y) ∙ ap turned (r .0) ∙ left-half (s .args .q) (s .pre .0) (s .args .i) (omega arith),
-      record { x-small = small-opposite x; y-small = small-opposite y },
+      ap₂ pt (i8-opposite x) (i8-opposite y) ∙ ap turned (r .0) ∙ left-half (s .args .q) (s .pre .0) (s .args .i) (omega arith),
+      record { x-small = i8-opposite-small x; y-small = i8-opposite-small y },
     )
 
 pub corner-at-spec : {M : Type 1} → statement M

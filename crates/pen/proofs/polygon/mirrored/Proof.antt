@@ -10,8 +10,8 @@ use Rattle.limits.specs.Sizes.{penMax}
 use Rattle.plane.specs.Point.{Pt, pt}
 use Rattle.pen.specs.declared.polygon.Point.{Point}
 use Rattle.pen.specs.Mirrored.{Boxed, pointOf, pushed}
-use Rattle.pen.proofs.Laid.{skipped, added}
-use Rattle.pen.proofs.Opposites.{itself}
+use Rattle.pen.proofs.Laid.{pushed-skipped, pushed-added}
+use Rattle.pen.proofs.Opposites.{i8-itself}
 use Rattle.pen.proofs.Mirroring.{Going, going-first, going-room, going-on, going-ended}
 use Rattle.pen.proofs.polygon.mirrored.Statement.{statement}
 use Rattle.pen.proofs.polygon.mirrored.Tie as tie
@@ -47,7 +47,7 @@ handed r = pt (toZ w8 (ofZ w8 (r .x))) (toZ w8 (ofZ w8 (r .y)))
 
 -- handing a corner on does not change it
 kept : {r : Point} {z : Pt} → (pointOf r ≡ z) × Boxed r → handed r ≡ z
-kept h = ap₂ pt (itself (h .1 .x-small)) (itself (h .1 .y-small)) ∙ h .0
+kept h = ap₂ pt (i8-itself (h .1 .x-small)) (i8-itself (h .1 .y-small)) ∙ h .0
 
 -- there is a place where a corner is stored
 place : (c : tie.Then1 Inv-loop μ-loop) → tested (next-known (c .before)) .before .loop .p .count < penMax
@@ -67,8 +67,8 @@ stored c =
     let b = handed (k .corner-at2 .result) in
     let told = sym (c .before .equal .ensures) in
     ⊎-elim
-    (λ w. w .1 ∙ added (l .loop .p) (current l) b (told ∙ unnot _ _ (w .0 .taken)))
-    (λ w. w .1 ∙ skipped (l .loop .p) (current l) b (told ∙ unnot _ _ (w .0 .left)))
+    (λ w. w .1 ∙ pushed-added (l .loop .p) (current l) b (told ∙ unnot _ _ (w .0 .taken)))
+    (λ w. w .1 ∙ pushed-skipped (l .loop .p) (current l) b (told ∙ unnot _ _ (w .0 .left)))
     (c .if1 .came)
 
 -- ---- the needs
