@@ -23,11 +23,11 @@ module _ (cs : List Pt) (p : List ℤ) (columns j : ℕ) (d : Drawable p columns
   over f g e = ap (λ (l : List ℕ). l ++ drop (packedLength columns) b) e
 
   pub packed-untouched : touchIn cs (pathPoints p) columns j ≡ touch·.Untouched → packedAtop (λ _. false) columns b ≡ packedOver cs p columns j b
-  packed-untouched e = over _ _ (packed-ext (λ x k. sym (untouched cs (pathPoints p) columns j (d .size .some, d .size .few) (drawable-near d) e x k)))
+  packed-untouched e = over _ _ (packed-ext (λ x k. sym (untouched cs (pathPoints p) columns j (d .size) (drawable-near d) e x k)))
 
   pub packed-touched : (l r : ℕ) → touchIn cs (pathPoints p) columns j ≡ touch·.One l r → packedAtop (λ x. leb l x && leb x r) columns b ≡ packedOver cs p columns j b
-  packed-touched l r e = over _ _ (packed-ext (λ x k. sym (touched-once cs (pathPoints p) columns j (d .size .some, d .size .few) (drawable-near d) l r e x k)))
+  packed-touched l r e = over _ _ (packed-ext (λ x k. sym (touched-once cs (pathPoints p) columns j (d .size) (drawable-near d) l r e x k)))
 
   pub packed-array : {far : List ℕ} {u : Bounds} → record { far = far; bounds = u } ≡ together cs (pathPoints p) columns j (replicate rasterMax 0) →
       packedAtop (blackFar far) columns b ≡ packedOver cs p columns j b
-  packed-array e = over _ _ (packed-ext (in-array cs (pathPoints p) columns j (d .size .some, d .size .few) (drawable-near d) e))
+  packed-array e = over _ _ (packed-ext (in-array cs (pathPoints p) columns j (d .size) (drawable-near d) e))

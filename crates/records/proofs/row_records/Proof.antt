@@ -61,10 +61,13 @@ use Rattle.records.proofs.Slot.{clears, room-again, big-lit}
 use Rattle.records.proofs.Run as T
 use Rattle.records.proofs.flat_runs as flat-runs
 use Rattle.records.proofs.flat_runs.Symbol as flat-runs-def
+use Rattle.records.proofs.flat_runs.Symbol.{name as #records·flat-runs}
 use Rattle.records.proofs.flat_runs.Met as flat-runs-thm
 use Rattle.records.proofs.write as write
 use Rattle.records.proofs.write.Symbol as write-def
+use Rattle.records.proofs.write.Symbol.{name as #records·write}
 use Rattle.records.proofs.write.Met as write-thm
+use Rattle.records.proofs.row_records.Key.{name as #records·row-records}
 use Rattle.records.proofs.row_records as row-records
 use Rattle.records.proofs.row_records.Statement as stated
 use Rattle.records.proofs.row_records.Code as code
@@ -149,7 +152,7 @@ module _ {M : Type 1} (𝓤 : URA M) (H : Heap 𝓤) (A : Atoms 𝓤) (W : Given
   abbrev Post : Val → SProp 𝓤
   Post = walkOf 𝓤 H A row-records.ended stayed (row-records.clauses 𝓤 H A mem run) .post bound
 
-  exits : (r : Answer) → Is Ans.the-row r (ans-val r ∷ []) → (ws : List Run) → length ws ≡ length ys → record { answer = r; records = ws } ≡ recordsCall t number (xp .now) columns rows row ys
+  exits : (r : Answer) → Is Ans.the-row r (ans-val r ∷ []) → (ws : List Run) → length ws ≡ length ys → record { answer = r; list = ws } ≡ recordsCall t number (xp .now) columns rows row ys
       → ent 𝓤 (⋆ 𝓤 H A (‵ (flft κ₀ q₀) ∷ ‵ (flft κ₁ q₁) ∷ ‵ (finally T.the-row γ ws) ∷ [])) (Post (ans-val r))
   exits r good ws k e =
       qed W (‵ (flft κ₀ q₀) ∷ ‵ (flft κ₁ q₁) ∷ ‵ (finally T.the-row γ ws) ∷ []) ∵
@@ -256,7 +259,7 @@ module _ {M : Type 1} (𝓤 : URA M) (H : Heap 𝓤) (A : Atoms 𝓤) (W : Given
             returns ! (look ! 38 refl) $ forget ! 38 refl $ forget ! 36 refl $ forget ! 34 refl $ forget ! 32 refl $ forget ! 30 refl $ forget ! 28 refl $ forget ! 26 refl $ forget ! 24 refl $ forget ! 21 refl $ forget ! 19 refl $ forget ! 13 refl $ forget ! 11 refl $ forget ! 9 refl $ forget ! 7 refl $ forget ! 5 refl $
             move ! (38 ∷ 39 ∷ []) $ free1 ! $ move ! (36 ∷ 37 ∷ []) $ free1 ! $ move ! (34 ∷ 35 ∷ []) $ free1 ! $ move ! (32 ∷ 33 ∷ []) $ free1 ! $ move ! (30 ∷ 31 ∷ []) $ free1 ! $ move ! (28 ∷ 29 ∷ []) $ free1 ! $ move ! (26 ∷ 27 ∷ []) $ free1 ! $ move ! (24 ∷ 25 ∷ []) $ free1 ! $ move ! (0 ∷ 23 ∷ []) $ free1 ! $ move ! (20 ∷ 21 ∷ []) $ free1 ! $ move ! (18 ∷ 19 ∷ []) $ free1 ! $ move ! (16 ∷ 17 ∷ []) $ free1 ! $ move ! (14 ∷ 15 ∷ []) $ free1 ! $ move ! (12 ∷ 13 ∷ []) $ free1 ! $ move ! (10 ∷ 11 ∷ []) $ free1 ! $ move ! (8 ∷ 9 ∷ []) $ free1 ! $ move ! (6 ∷ 7 ∷ []) $ free1 ! $ move ! (4 ∷ 5 ∷ []) $ free1 ! $ free0 ! $
             keep ! (3 ∷ 0 ∷ 2 ∷ []) $
-            by ! (exits r good (fs .1 .1 .0) k (ap (λ (rs : List Run). record { answer = r; records = rs }) e ∙ f .same))))))))))
+            by ! (exits r good (fs .1 .1 .0) k (ap (λ (rs : List Run). record { answer = r; list = rs }) e ∙ f .same))))))))))
           where
             count-fits : r .count < 2 ^ 64
             count-fits = LL.owed Ans.the-type Ans′.the-laws r _ good .1 .1 .0 .1

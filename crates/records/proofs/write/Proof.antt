@@ -51,6 +51,7 @@ use Rattle.records.specs.Records.{written}
 use Rattle.records.proofs.Written.{record-at, filled, length-filled, filled-written}
 use Rattle.records.proofs.Run as T
 use Rattle.records.proofs.Run.Laws as T′
+use Rattle.records.proofs.write.Key.{name as #records·write}
 use Rattle.records.proofs.write as write
 use Rattle.records.proofs.write.Statement as stated
 use Rattle.records.proofs.write.Code as code

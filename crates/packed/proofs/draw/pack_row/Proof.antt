@@ -33,7 +33,7 @@ inside : (c : tie.After-left) → let s = start (c .before .before) in (left c �
 inside c =
     let s = start (c .before .before) in
     let z = s .pre .1 .size in
-    once-in (pen-corners s) (pathPoints (s .args .path .now)) (s .args .columns) (s .args .row) (z .some, z .few) (left c) (right c) (once c)
+    once-in (pen-corners s) (pathPoints (s .args .path .now)) (s .args .columns) (s .args .row) z (left c) (right c) (once c)
 
 touching-requires : tie.Need-touching-requires
 touching-requires c κs = search needs

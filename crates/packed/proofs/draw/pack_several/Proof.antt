@@ -25,7 +25,7 @@ bounds : (c : tie.After-put-together) → let b = c .put-together .result in Bou
 bounds c =
     let s = start c in
     let z = s .pre .1 .size in
-    together-bounded (pen-corners s) (pathPoints (s .args .path .now)) (s .args .columns) (s .args .row) (z .some, z .few) (c .put-together .ensures)
+    together-bounded (pen-corners s) (pathPoints (s .args .path .now)) (s .args .columns) (s .args .row) z (c .put-together .ensures)
 
 slice-aggregate-put-together : tie.Need-slice-aggregate-put-together
 slice-aggregate-put-together c = search needs

@@ -41,7 +41,7 @@ once c = sym (c .before .before .touching .ensures) ∙ c .left .given .1
 inside : (c : tie.After-left) → let s = start (c .before .before) in (left c ≤ right c) × (right c < s .args .columns)
 inside c =
     let s = start (c .before .before) in
-    once-in (pen-corners s) (pathPoints (s .args .path .now)) (s .args .columns) (s .args .row) (s .pre .size .some, s .pre .size .few) (left c) (right c) (once c)
+    once-in (pen-corners s) (pathPoints (s .args .path .now)) (s .args .columns) (s .args .row) (s .pre .size) (left c) (right c) (once c)
 
 touching-requires : tie.Need-touching-requires
 touching-requires c κs = search needs

@@ -30,7 +30,7 @@ array c = c .put-together .last .0
 bounds : (c : tie.After-put-together) → let b = c .put-together .result in Bounded (array c) (b .first) (b .end) × (b .end ≤ start c .args .columns)
 bounds c =
     let s = start c in
-    together-bounded (pen-corners s) (pathPoints (s .args .path .now)) (s .args .columns) (s .args .row) (s .pre .size .some, s .pre .size .few) (c .put-together .ensures)
+    together-bounded (pen-corners s) (pathPoints (s .args .path .now)) (s .args .columns) (s .args .row) (s .pre .size) (c .put-together .ensures)
 
 slice-aggregate-put-together : tie.Need-slice-aggregate-put-together
 slice-aggregate-put-together c = search needs
