@@ -5,7 +5,7 @@ ghost use Prim.Native.Nat.{_+_, _<_};
 ghost use lib.ListN.{length, take, set};
 ghost use Rattle.io.specs.Counts.{Counts};
 ghost use Rattle.wire.specs.Write.{byteOf};
-ghost use Rattle.pens.specs.Answer.{Encodable, answer};
+ghost use Rattle.try_pens.specs.Answer.{Encodable, answer};
 
 // Stores the two bytes of a corner.
 fn put(out: &mut [u8; 266], at: usize, x: i8, y: i8)

@@ -8,9 +8,9 @@ use mir.Syntax.{w8}
 use denote.Ref.{now}
 use borrow.Author.Needs.{needs}
 use Rattle.integers.proofs.Machine.{known}
-use Rattle.pens.proofs.Bytes.{Going, begun, more, two-more}
-use Rattle.pens.proofs.answer.encode.Statement.{statement}
-use Rattle.pens.proofs.answer.encode.Tie as tie
+use Rattle.try_pens.proofs.Bytes.{Going, begun, more, two-more}
+use Rattle.try_pens.proofs.answer.encode.Statement.{statement}
+use Rattle.try_pens.proofs.answer.encode.Tie as tie
 
 abbrev Inv-loop : tie.InvT-loop
 Inv-loop out₀ pen i₀ out i = Going out₀ pen out i

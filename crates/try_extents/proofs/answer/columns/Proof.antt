@@ -4,8 +4,8 @@ use mir.Syntax.{w64}
 use Rattle.integers.proofs.Machine.{par}
 use Rattle.wire.specs.Write.{eightOf}
 use borrow.Author.Needs.{needs}
-use Rattle.extents.proofs.answer.columns.Statement.{statement}
-use Rattle.extents.proofs.answer.columns.Tie as tie
+use Rattle.try_extents.proofs.answer.columns.Statement.{statement}
+use Rattle.try_extents.proofs.answer.columns.Tie as tie
 
 eight-requires : tie.Need-eight-requires
 eight-requires c κs = search needs

@@ -2,8 +2,8 @@
 use mir.Syntax.{w8}
 use borrow.Author.Needs.{needs}
 use Rattle.integers.proofs.Machine.{par}
-use Rattle.pens.proofs.answer.put.Statement.{statement}
-use Rattle.pens.proofs.answer.put.Tie as tie
+use Rattle.try_pens.proofs.answer.put.Statement.{statement}
+use Rattle.try_pens.proofs.answer.put.Tie as tie
 
 byte-requires : tie.Need-byte-requires
 byte-requires c κs = search needs

@@ -10,7 +10,7 @@ use lib.IntN.{ℤ, pos}
 use Rattle.pen.specs.declared.Pen.{Pen}
 use Rattle.plane.specs.Point.{Pt, pt, points, corners}
 use Rattle.wire.specs.Write.{byteOf}
-use Rattle.pens.specs.Answer.{pairs}
+use Rattle.try_pens.specs.Answer.{pairs}
 
 -- the lists with a last corner more
 points-snoc : (xs ys : List ℤ) (a b : ℤ) → length xs ≡ length ys → points (xs ++ (a ∷ [])) (ys ++ (b ∷ [])) ≡ points xs ys ++ (pt a b ∷ [])

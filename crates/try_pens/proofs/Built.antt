@@ -21,7 +21,7 @@ use Rattle.quarter.proofs.Laid.{laid-long, laid-small}
 use Rattle.setting.proofs.Limits.{taken-iff, box-wide, box-high}
 use Rattle.pen.proofs.Theorems.{pen-few, pen-is-pen}
 use Rattle.pen.proofs.Answers.{pen-built, none-built}
-use Rattle.pens.specs.Answer.{Encodable}
+use Rattle.try_pens.specs.Answer.{Encodable}
 
 both : (z : ℤ) (n : ℕ) → z ≼ pos n → negℤ z ≼ pos n → Abs z n
 both (pos m) n h k = record { abs = leb→le m n (h .le) }
