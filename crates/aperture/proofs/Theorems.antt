@@ -41,23 +41,23 @@ record Removes (t : Table) (n : ℕ) : Type 0 where
   is-number : isNumber n ≡ true
   gives : removed t n ≡ changed Passed (withPlace t n vacant) t
 
-refuses : {t u : Table} {c : Changed} (r : Refusal) → ¬ (number r ≡ 0) → c ≡ changed (refuse r 0) u t → Refuses t c
-refuses r h e = record { says = λ z. h (sym (ap (λ (k : Changed). k .refusal) e) ∙ z); keeps = ap (λ (k : Changed). k .table) e }
+refuses : {t : Table} (u : Table) {c : Changed} (r : Refusal) → ¬ (number r ≡ 0) → c ≡ changed (refuse r 0) u t → Refuses t c
+refuses u r h e = record { says = λ z. h (sym (ap (λ (k : Changed). k .refusal) e) ∙ z); keeps = ap (λ (k : Changed). k .table) e }
 
 defined-case : (t : Table) (n : ℕ) (σ : Setting) → Refuses t (defined t n σ) ⊎ Defines t n σ
 defined-case t n σ = go (isNumber n) (taken σ) (placeOf t n .used) refl refl refl
   where
     go : (a b u : Bool) → isNumber n ≡ a → taken σ ≡ b → placeOf t n .used ≡ u → Refuses t (defined t n σ) ⊎ Defines t n σ
-    go false b u e f g = inl (refuses aperture (λ z. omega arith) (not-number t n σ e))
-    go true false u e f g = inl (refuses setting (λ z. omega arith) (not-taken t n σ e f))
-    go true true true e f g = inl (refuses inUse (λ z. omega arith) (not-free t n σ e f g))
+    go false b u e f g = inl (refuses (withPlace t n (holding σ)) aperture (λ z. omega arith) (not-number t n σ e))
+    go true false u e f g = inl (refuses (withPlace t n (holding σ)) setting (λ z. omega arith) (not-taken t n σ e f))
+    go true true true e f g = inl (refuses (withPlace t n (holding σ)) inUse (λ z. omega arith) (not-free t n σ e f g))
     go true true false e f g = inr record { is-number = e; is-taken = f; gives = stores t n σ e f g }
 
 removed-case : (t : Table) (n : ℕ) → Refuses t (removed t n) ⊎ Removes t n
 removed-case t n = go (isHeld t n) refl
   where
     go : (h : Bool) → isHeld t n ≡ h → Refuses t (removed t n) ⊎ Removes t n
-    go false e = inl (refuses aperture (λ z. omega arith) (not-held t n e))
+    go false e = inl (refuses (withPlace t n vacant) aperture (λ z. omega arith) (not-held t n e))
     go true e = inr record { is-number = held-parts t n e .0; gives = empties t n e }
 
 -- a call that says 0 has not refused

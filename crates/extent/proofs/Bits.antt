@@ -60,9 +60,12 @@ coordinate f h =
 pub opposite : {x : ℤ} {m n : ℕ} → Is w64 x m n → T (ltb (0 + n) (2 ^ hbits w64)) → Is w64 (negℤ x) (bits (pos 0) ⊖ m) (0 + n)
 opposite {x} p t = along (+ℤ-idl (negℤ x)) (sub (num (pos 0) tt) p t)
 
--- a row's place, in sixteenths of a pixel
+-- a row, and its place in sixteenths of a pixel
+pub row-number : {j : ℕ} → j < rasterMax → Is w64 (pos j) j rasterMax
+row-number {j} h = of-nat j (le-of-lt h) tt
+
 pub row-place : {j : ℕ} → j < rasterMax → Is w64 (pos 16 *ℤ pos j) (bits (pos 16) ⊗ j) 262144
-row-place {j} h = mul (num (pos 16) tt) (of-nat j (le-of-lt h) tt) tt
+row-place h = mul (num (pos 16) tt) (row-number h) tt
 
 -- what a test picks
 pub picked : {A : Type 0} {t u : Bool} (x y : A) → t ≡ u → cond t x y ≡ cond u x y

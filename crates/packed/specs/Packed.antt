@@ -9,7 +9,7 @@ use Rattle.plane.specs.Point.{Pt}
 use Rattle.limits.specs.declared.Verdict.{Verdict}
 use Rattle.limits.specs.declared.Verdict.the-variants.{Passed}
 use Rattle.checks.specs.Checks.{callVerdict}
-use Rattle.checks.specs.Answer.{Result, given}
+use Rattle.checks.specs.Answer.{Result, Offer, given}
 use Rattle.stroke.specs.Sweep.{pathPoints}
 use Rattle.stroke.specs.Runs.{blackAt}
 use Rattle.aperture.specs.declared.Table.{Table}
@@ -33,18 +33,18 @@ packedLength columns = (columns + 7) / 8
 abbrev pub packed : (ℕ → Bool) → ℕ → List ℕ
 packed f columns = bytesFrom (λ x. ltb x columns && f x) 0 (packedLength columns)
 
--- a packed row, given or refused; 7: "a packed row longer than its buffer"; it "leaves the rest of its buffer"
-abbrev pub packedGiven : Verdict → (ℕ → Bool) → ℕ → List ℕ → Result ℕ
-packedGiven v f columns b = given v (packedLength columns) (length b) (packed f columns ++ drop (packedLength columns) b) b
+-- what a call offers that has these black columns: 7 is "a packed row longer than its buffer"; it "leaves the rest of its buffer"
+abbrev pub packedOffer : (ℕ → Bool) → ℕ → List ℕ → Offer ℕ
+packedOffer f columns b = record { count = packedLength columns; space = length b; after = packed f columns ++ drop (packedLength columns) b; before = b }
 
--- a call for the packed row of a path, with the corners of its pen and what is checked of that pen
-abbrev pub packGiven : Verdict → List Pt → List ℤ → ℕ → ℕ → ℕ → List ℕ → Result ℕ
-packGiven ofPen cs path columns rows j b = packedGiven (callVerdict ofPen path columns rows j) (λ x. blackAt cs (pathPoints path) (pos j) (pos x)) columns b
+-- the packed row of a path for the corners of a pen, where the checks answer v
+abbrev pub packedGiven : Verdict → List Pt → List ℤ → ℕ → ℕ → List ℕ → Result ℕ
+packedGiven v cs path columns j b = given v (packedOffer (λ x. blackAt cs (pathPoints path) (pos j) (pos x)) columns b)
 
 -- the call for a pen that is handed over
 unfoldable pub packResult : List Pt → List ℤ → ℕ → ℕ → ℕ → List ℕ → Result ℕ
-packResult cs path columns rows j b = packGiven Passed cs path columns rows j b
+packResult cs path columns rows j b = packedGiven (callVerdict Passed path columns rows j) cs path columns j b
 
 -- the call for an aperture: "Row calls check in the order 6, 2, 4, 5, 3, 7"
 unfoldable pub packedCall : Table → ℕ → List ℤ → ℕ → ℕ → ℕ → List ℕ → Result ℕ
-packedCall t n path columns rows j b = packGiven (lookedVerdict (looked t n)) (heldCorners t n) path columns rows j b
+packedCall t n path columns rows j b = packedGiven (callVerdict (lookedVerdict (looked t n)) path columns rows j) (heldCorners t n) path columns j b

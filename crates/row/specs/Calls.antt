@@ -4,8 +4,9 @@ use mathlib.Core.List.{List}
 use lib.IntN.{ℤ}
 use Rattle.aperture.specs.declared.Table.{Table}
 use Rattle.aperture.specs.Table.{looked, lookedVerdict, heldCorners}
+use Rattle.checks.specs.Checks.{callVerdict}
 use Rattle.checks.specs.Answer.{Result}
 use Rattle.row.specs.Answer.{rowGiven}
 
 unfoldable pub rowCall : Table → ℕ → List ℤ → ℕ → ℕ → ℕ → List ℕ → Result ℕ
-rowCall t n path columns rows j l = rowGiven (lookedVerdict (looked t n)) (heldCorners t n) path columns rows j l
+rowCall t n path columns rows j l = rowGiven (callVerdict (lookedVerdict (looked t n)) path columns rows j) (heldCorners t n) path columns j l

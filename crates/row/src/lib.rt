@@ -26,10 +26,12 @@ pub fn row_runs(
     row: u64,
     runs: &mut [u16],
 ) -> Answer
-    ensures { λ r. ⌜ record { answer = r; list = now (runs .exit) } ≡ rowCall table number (now (path .entry)) columns rows row (now (runs .entry)) ⌝ }
+    ensures {
+        λ r. ⌜ record { answer = r; list = now (runs .exit) } ≡ rowCall table number (now (path .entry)) columns rows row (now (runs .entry)) ⌝
+    }
 {
     let Looked::At(i) = aperture::look_up(table, number) else {
-        return checks::report(Verdict::Refused(6, 0));
+        return checks::report(Verdict::Refused(limits::NO_APERTURE, 0));
     };
     let place = table.places[i];
     runs_for(place.pen, path, columns, rows, row, runs)
@@ -44,7 +46,9 @@ pub fn runs_for(
     row: u64,
     runs: &mut [u16],
 ) -> Answer
-    ensures { λ r. ⌜ record { answer = r; list = now (runs .exit) } ≡ rowResult (penCorners pen) (now (path .entry)) columns rows row (now (runs .entry)) ⌝ }
+    ensures {
+        λ r. ⌜ record { answer = r; list = now (runs .exit) } ≡ rowResult (penCorners pen) (now (path .entry)) columns rows row (now (runs .entry)) ⌝
+    }
 {
     let checked = checks::check(path, columns, rows, row);
     let Verdict::Passed = checked else {

@@ -7,13 +7,13 @@ use lib.IntN.{ℤ, pos, _+ℤ_, _-ℤ_, _*ℤ_}
 use mir.Syntax.{w64}
 use Rattle.integers.specs.Orders.{_≺_}
 use Rattle.integers.proofs.Tests.{true-and, false-and}
-use Rattle.integers.proofs.Machine.{Is, known, num, of-nat, mul, mul-fits, sub, sub-fits, weaken, bound, at-return, lt-yes, lt-no}
+use Rattle.integers.proofs.Machine.{Is, known, num, mul, mul-fits, sub, sub-fits, weaken, bound, at-return, lt-yes, lt-no}
 use Rattle.plane.specs.Polygon.{Side}
 use Rattle.extent.specs.declared.limit.Limits.{Limits}
 use Rattle.stroke.specs.Extent.{upper, lower, narrow}
 use Rattle.extent.specs.Held.{lastTo, atMost, atLeast, left, flatLeaves, Steady}
 use Rattle.stroke.proofs.Kept.{neg-pos}
-use Rattle.extent.proofs.Bits.{bits, _⊖_, _⊗_, opposite, row-place, ap₃}
+use Rattle.extent.proofs.Bits.{bits, _⊖_, _⊗_, opposite, row-number, row-place, ap₃}
 use Rattle.extent.proofs.Narrow.{narrow-right, narrow-left, narrow-flat}
 use borrow.Author.Needs.{needs}
 use Rattle.extent.proofs.limit.narrow.Statement.{statement}
@@ -35,7 +35,7 @@ abbrev side : tie.Start → Side
 side s = record { a = s .args .a; b = s .args .b; c = s .args .c }
 
 -- the row's place along the normal, and the room
-at : (s : tie.Start) → Is w64 (s .args .b *ℤ (pos 16 *ℤ pos (s .args .row))) (bits (s .args .b) ⊗ (bits (pos 16) ⊗ s .args .row)) (2 ^ 19 * 262128)
+at : (s : tie.Start) → Is w64 (s .args .b *ℤ (pos 16 *ℤ pos (s .args .row))) (bits (s .args .b) ⊗ (bits (pos 16) ⊗ s .args .row)) (2 ^ 19 * 262144)
 at s = mul (b s) (row-place (s .pre .1 .1)) tt
 
 room : (s : tie.Start) → Is w64 (s .args .c -ℤ s .args .b *ℤ (pos 16 *ℤ pos (s .args .row))) (bits (s .args .c) ⊖ bits (s .args .b) ⊗ (bits (pos 16) ⊗ s .args .row)) (2 ^ 40)
@@ -57,7 +57,7 @@ cast-at : tie.Need-cast-at
 cast-at c = search needs
 
 mul-at : tie.Need-mul-at
-mul-at c = mul-fits (num (pos 16) tt) (of-nat (c .args .row) (c .pre .1 .1) tt) tt
+mul-at c = mul-fits (num (pos 16) tt) (row-number (c .pre .1 .1)) tt
 
 mul-at-2 : tie.Need-mul-at-2
 mul-at-2 c = mul-fits (b c) (row-place (c .pre .1 .1)) tt

@@ -10,10 +10,10 @@ use mir.Val.{toZ}
 use denote.Ref.{now}
 use Rattle.integers.specs.Compare.{minZ, maxZ}
 use Rattle.integers.proofs.Tests.{true-and, false-and}
-use Rattle.integers.proofs.Machine.{Is, known, num, of-nat, mul, mul-fits, add, add-fits, sub, sub-fits, leZ-at}
+use Rattle.integers.proofs.Machine.{Is, known, num, mul, mul-fits, add, add-fits, sub, sub-fits, leZ-at}
 use Rattle.plane.specs.Polygon.{reach}
 use Rattle.plane.specs.Point.{corners}
-use Rattle.extent.proofs.Bits.{bits, _⊖_, _⊗_, row-place, greatest, least}
+use Rattle.extent.proofs.Bits.{bits, _⊖_, _⊗_, row-number, row-place, greatest, least}
 use borrow.Author.Needs.{needs}
 use Rattle.extent.proofs.side.reached.Statement.{statement}
 use Rattle.extent.proofs.side.reached.Tie as tie
@@ -48,7 +48,7 @@ cast-at : tie.Need-cast-at
 cast-at c = search needs
 
 mul-at : tie.Need-mul-at
-mul-at c = mul-fits (num (pos 16) tt) (of-nat (c .before .args .row) (c .before .pre .1 .1) tt) tt
+mul-at c = mul-fits (num (pos 16) tt) (row-number (c .before .pre .1 .1)) tt
 
 min-requires : tie.Need-min-requires
 min-requires c κs = search needs
