@@ -64,7 +64,10 @@ array-read-t53 c = search needs
 returns : tie.Need-returns
 returns c =
     let s = c .before .before in
-    rw (c .before .eight .ensures ∙ ap eightOf (par {w = w64} (s .fits .first) .reads), c .eight2 .ensures ∙ ap eightOf (par {w = w64} (s .fits .last) .reads))
+    rw (
+      c .before .eight .ensures ∙ ap eightOf (par {w = w64} (s .fits .first) .reads),
+      c .eight2 .ensures ∙ ap eightOf (par {w = w64} (s .fits .last) .reads),
+    )
 
 pub columns-spec : {M : Type 1} → statement M
 columns-spec =
