@@ -33,13 +33,21 @@ packedLength columns = (columns + 7) / 8
 abbrev pub packed : (ℕ → Bool) → ℕ → List ℕ
 packed f columns = bytesFrom (λ x. ltb x columns && f x) 0 (packedLength columns)
 
--- what a call offers that has these black columns: 7 is "a packed row longer than its buffer"; it "leaves the rest of its buffer"
-abbrev pub packedOffer : (ℕ → Bool) → ℕ → List ℕ → Offer ℕ
-packedOffer f columns b = record { count = packedLength columns; space = length b; after = packed f columns ++ drop (packedLength columns) b; before = b }
+-- a packed row at the start of a buffer: it "leaves the rest of its buffer"
+abbrev pub packedAtop : (ℕ → Bool) → ℕ → List ℕ → List ℕ
+packedAtop f columns b = packed f columns ++ drop (packedLength columns) b
+
+-- the same of the columns that a path blackens in row j, for the corners of a pen
+abbrev pub packedOver : List Pt → List ℤ → ℕ → ℕ → List ℕ → List ℕ
+packedOver cs path columns j b = packedAtop (λ x. blackAt cs (pathPoints path) (pos j) (pos x)) columns b
+
+-- what a call offers: 7 is "a packed row longer than its buffer"
+abbrev pub packedOffer : List Pt → List ℤ → ℕ → ℕ → List ℕ → Offer ℕ
+packedOffer cs path columns j b = record { count = packedLength columns; space = length b; after = packedOver cs path columns j b; before = b }
 
 -- the packed row of a path for the corners of a pen, where the checks answer v
 abbrev pub packedGiven : Verdict → List Pt → List ℤ → ℕ → ℕ → List ℕ → Result ℕ
-packedGiven v cs path columns j b = given v (packedOffer (λ x. blackAt cs (pathPoints path) (pos j) (pos x)) columns b)
+packedGiven v cs path columns j b = given v (packedOffer cs path columns j b)
 
 -- the call for a pen that is handed over
 unfoldable pub packResult : List Pt → List ℤ → ℕ → ℕ → ℕ → List ℕ → Result ℕ

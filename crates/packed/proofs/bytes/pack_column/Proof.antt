@@ -26,14 +26,14 @@ returns c =
     let spare = sym (false-and (ltb (a .x) (a .columns)) (blackFar (a .far .now) (a .x)) (le-ltb (a .x) (a .columns) l)) in
     (omega (arith, bit spare), reach-stays (a .far .now) (a .columns) (a .x) l (c .before .before .before .pre .1 .1))
 
-mul-further : tie.Need-mul-further
-mul-further c = search needs
+mul-max-u16 : tie.Need-mul-max-u16
+mul-max-u16 c = search needs
 
-shared-slice-read-further : tie.Need-shared-slice-read-further
-shared-slice-read-further c = search needs
+shared-slice-read-max-u16 : tie.Need-shared-slice-read-max-u16
+shared-slice-read-max-u16 c = search needs
 
-further-requires : tie.Need-further-requires
-further-requires c κs = search needs
+max-u16-requires : tie.Need-max-u16-requires
+max-u16-requires c κs = search needs
 
 cast-if2 : tie.Need-cast-if2
 cast-if2 c = search needs
@@ -48,7 +48,7 @@ returns-2 : tie.Need-returns-2
 returns-2 c =
     let a = c .before .before .before .before .before .before .args in
     let l = c .before .before .before .before .if1 .left in
-    let r = reach-on (a .far .now) (a .columns) (a .x) l (c .before .before .before .before .before .before .pre .1 .1) (c .before .before .further .ensures) in
+    let r = reach-on (a .far .now) (a .columns) (a .x) l (c .before .before .before .before .before .before .pre .1 .1) (c .before .before .max-u16 .ensures) in
     let b = lt-ltb (a .x) (reachTo (a .far .now) (a .x)) (omega (arith, r .0, c .before .if2 .taken)) in
     (omega (arith, bit (and-true (ltb (a .x) (a .columns)) (blackFar (a .far .now) (a .x)) (lt-ltb (a .x) (a .columns) l) b)), r .1)
 
@@ -59,7 +59,7 @@ returns-3 : tie.Need-returns-3
 returns-3 c =
     let a = c .before .before .before .before .before .before .args in
     let l = c .before .before .before .before .if1 .left in
-    let r = reach-on (a .far .now) (a .columns) (a .x) l (c .before .before .before .before .before .before .pre .1 .1) (c .before .before .further .ensures) in
+    let r = reach-on (a .far .now) (a .columns) (a .x) l (c .before .before .before .before .before .before .pre .1 .1) (c .before .before .max-u16 .ensures) in
     let b = le-ltb (a .x) (reachTo (a .far .now) (a .x)) (omega (arith, r .0, c .before .if2 .left)) in
     (omega (arith, bit (and-false (ltb (a .x) (a .columns)) (blackFar (a .far .now) (a .x)) b)), r .1)
 
@@ -69,9 +69,9 @@ pack-column-spec =
     (tie.spec
     mul-t7
     returns
-    mul-further
-    shared-slice-read-further
-    further-requires
+    mul-max-u16
+    shared-slice-read-max-u16
+    max-u16-requires
     cast-if2
     mul-t11
     add-t12
