@@ -5,7 +5,6 @@
 // (far). What each function promises is cited from specs/.
 ghost use mathlib.Core.Path.{_≡_};
 ghost use mathlib.Core.Bool.{_&&_};
-ghost use Prim.Native.Nat.{max};
 ghost use lib.Dec.{leb};
 ghost use Rattle.plane.specs.Point.{corners};
 ghost use Rattle.limits.specs.Sizes.{isSize};
@@ -27,16 +26,6 @@ pub enum Touch {
 pub struct Bounds {
     pub first: usize,
     pub end: usize,
-}
-
-// The further of two ends.
-pub fn further(a: u16, b: u16) -> u16
-    ensures { λ r. ⌜ r ≡ max a b ⌝ }
-{
-    if a < b {
-        return b;
-    }
-    a
 }
 
 // How many segments touch the row, for the pen whose corners are the first `count` places of xs and
@@ -68,7 +57,8 @@ pub fn put_together<'a>(
     columns: usize,
     row: u64,
 ) -> Bounds
-    ensures { λ r. ⌜ _≡_ {A = Together} (record { far = now (far .exit); bounds = r }) (together (corners count (now (xs .entry)) (now (ys .entry))) (pathPoints (now (path .entry))) columns row (now (far .entry))) ⌝ }
+    ensures { λ r. ⌜ _≡_ {A = Together} (record { far = now (far .exit); bounds = r })
+        (together (corners count (now (xs .entry)) (now (ys .entry))) (pathPoints (now (path .entry))) columns row (now (far .entry))) ⌝ }
 {
     if !serves(columns, far.len()) {
         return Bounds { first: 0, end: 0 };

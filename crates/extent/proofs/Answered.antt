@@ -1,5 +1,5 @@
 -- What is answered: nothing outside the limits or the reach, else the columns that all sides leave. And what the limits say of the numbers.
-use Prim.Native.Nat.{ℕ, _^_, _<_}
+use Prim.Native.Nat.{ℕ, _^_}
 use mathlib.Core.Path.{_≡_, sym, subst}
 use mathlib.Core.Bool.{true, false, _&&_}
 use mathlib.Core.List.{List}
@@ -22,7 +22,9 @@ use Rattle.extent.specs.Held.{start, Near, ends}
 -- ---- numbers within the limits
 range-small : (z : ℤ) → inRange z ≡ true → Abs z (2 ^ 18)
 unfolding inRange
-range-small z e = let h = and-both (leZ (negℤ (pos coordinateMax)) z) (leZ z (pos coordinateMax)) e in abs-iff z coordinateMax .1 (le-true (h .0), le-true (h .1))
+range-small z e =
+    let h = and-both (leZ (negℤ (pos coordinateMax)) z) (leZ z (pos coordinateMax)) e in
+    abs-iff z coordinateMax .1 (le-true (h .0), le-true (h .1))
 
 module _ (ax ay bx by : ℤ) (j : ℕ) (e : allowed ax ay bx by j ≡ true) where
   parts : ((inRange ax ≡ true) × (inRange ay ≡ true)) × ((inRange bx ≡ true) × (inRange by ≡ true)) × (isRow j ≡ true)
@@ -31,15 +33,13 @@ module _ (ax ay bx by : ℤ) (j : ℕ) (e : allowed ax ay bx by j ≡ true) wher
       let k = and-both (inRange bx && inRange by) (isRow j) (h .1) in
       (and-both (inRange ax) (inRange ay) (h .0), and-both (inRange bx) (inRange by) (k .0), k .1)
 
-  pub row-small : j < rasterMax
-  row-small = ltb-true j rasterMax (parts .2)
-
-  pub near : (g : Ends) → ends g ≡ seg ax ay bx by → Near g
+  pub near : (g : Ends) → ends g ≡ seg ax ay bx by → Near g j
   near g q = record {
     ax-small = small (λ s. s .from .x) (range-small ax (parts .0 .0));
     ay-small = small (λ s. s .from .y) (range-small ay (parts .0 .1));
     bx-small = small (λ s. s .to .x) (range-small bx (parts .1 .0));
     by-small = small (λ s. s .to .y) (range-small by (parts .1 .1));
+    low = ltb-true j rasterMax (parts .2);
   }
     where
       small : (f : Seg → ℤ) → Abs (f (seg ax ay bx by)) (2 ^ 18) → Abs (f (ends g)) (2 ^ 18)

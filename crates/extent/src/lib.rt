@@ -3,11 +3,10 @@
 // The way of the data: the segment and the row are checked against document 01's limits, the sides
 // of the segment's sweep (side) narrow the row's columns one after the other (limit), and what is
 // left is the answer. What each function promises is cited from specs/.
+use integers::min_usize;
 use pen::Pen;
 ghost use mathlib.Core.Path.{_≡_};
 ghost use mathlib.Core.Bool.{_&&_};
-ghost use mathlib.Core.Logic.{_⊎_};
-ghost use Prim.Native.Nat.{_≤_};
 ghost use Rattle.plane.specs.Point.{corners};
 ghost use Rattle.pen.specs.Answer.{penCorners};
 ghost use Rattle.limits.specs.Sizes.{inRange};
@@ -38,13 +37,6 @@ fn allowed(ax: i32, ay: i32, bx: i32, by: i32, row: u64) -> bool
     ensures { λ r. ⌜ r ≡ allowed ax ay bx by row ⌝ }
 {
     both(ax, ay) && (both(bx, by) && row < limits::RASTER_MAX as u64)
-}
-
-// The lesser of two counts.
-fn least(a: usize, b: usize) -> usize
-    ensures { λ r. ⌜ (r ≤ a) × (r ≤ b) × ((a ≤ r) ⊎ (b ≤ r)) ⌝ }
-{
-    if a <= b { a } else { b }
 }
 
 // The ends in the numbers that the rest counts with.
@@ -78,7 +70,7 @@ pub fn extent_at<'a>(
         return Extent::Nothing;
     }
     // Corners that the arrays do not have are none.
-    let n = least(count, least(xs.len(), ys.len()));
+    let n = min_usize(count, min_usize(xs.len(), ys.len()));
     let g = wide(ax, ay, bx, by);
     // Most rows miss most segments.
     if !side::reached(ys, n, g, row) {

@@ -21,6 +21,11 @@ pub unless-true : (t : Bool) (r : Refusal) → unless t r ≡ Passed → t ≡ t
 unless-true true r e = refl
 unless-true false r e = not-passed e
 
+-- a test that refuses is not passed, and its place is 0
+pub unless-refused : (t : Bool) (r : Refusal) {v : Verdict} {n p : ℕ} → v ≡ unless t r → v ≡ Refused n p → (v ≡ Refused (number r) 0) × (t ≡ false)
+unless-refused true r e f = not-passed (sym f ∙ e)
+unless-refused false r e f = (e, refl)
+
 -- ---- one check after the other
 pub goes-on : {u w : Verdict} (v : Verdict) → u ≡ Passed → w ≡ v → w ≡ (u then v)
 goes-on v e f = f ∙ ap (λ (u : Verdict). u then v) (sym e)

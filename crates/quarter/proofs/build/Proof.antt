@@ -7,17 +7,18 @@ use Rattle.setting.specs.Setting.{Taken, taken}
 use Rattle.setting.proofs.Limits.{taken-iff}
 use Rattle.setting.proofs.Answers.{checked-taken, checked-refused}
 use Rattle.quarter.specs.Cutting.{quarter}
-use Rattle.quarter.specs.Answer.{quarterOf, cornered}
+use Rattle.quarter.specs.Answer.{quarterOf}
 use Rattle.quarter.proofs.Cornered.{cornered-taken, cornered-none}
 use Rattle.quarter.proofs.build.Statement.{statement}
 use Rattle.quarter.proofs.build.Tie as tie
 
--- where the check took t, the setting s is t and within the limits
-abbrev given : tie.After-known-told → Setting
-given c = c .before .before .before .before .args .s
+-- the setting that is asked about, as the check finds it
+abbrev given : tie.After-check → Setting
+given c = c .before .args .s
 
-passed : (c : tie.After-known-told) → (taken (given c) ≡ true) × (given c ≡ c .before .t .given .0 .0)
-passed c = checked-taken (given c) _ (sym (c .before .before .before .check .ensures) ∙ c .before .t .given .1)
+-- where the check took t, the setting is t and within the limits
+passed : (c : tie.After-known-told) → let σ = given (c .before .before .before) in (taken σ ≡ true) × (σ ≡ c .before .t .given .0 .0)
+passed c = checked-taken _ _ (sym (c .before .before .before .check .ensures) ∙ c .before .t .given .1)
 
 check-requires : tie.Need-check-requires
 check-requires c κs = search needs
@@ -33,8 +34,10 @@ none-requires c κs = search needs
 
 returns : tie.Need-returns
 returns c =
-    let σ = c .before .before .before .before .args .s in
-    c .none .ensures ∙ sym (cornered-none σ (checked-refused σ (sym (c .before .before .before .check .ensures) ∙ c .before .enum-told .given .1)))
+    let refused = c .before in
+    let check = refused .before .before in
+    let σ = given check in
+    c .none .ensures ∙ sym (cornered-none σ (checked-refused σ (sym (check .check .ensures) ∙ refused .enum-told .given .1)))
 
 quarter-requires : tie.Need-quarter-requires
 quarter-requires c κs = let k = passed c in subst Taken (k .1) (taken-iff _ .0 (k .0))

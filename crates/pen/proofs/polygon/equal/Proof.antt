@@ -2,8 +2,7 @@
 use Rattle.integers.proofs.Tests.{true-and, false-and}
 use Rattle.integers.proofs.Machine.{par, eqZ-at}
 use borrow.Author.Tests.{eq-eqb, ne-eqb}
-use mathlib.Core.Bool.{Bool, true, false, _&&_}
-use mathlib.Core.Path.{_≡_, refl, sym, subst, _∙_}
+use mathlib.Core.Path.{sym, _∙_}
 use Rattle.pen.proofs.polygon.equal.Statement.{statement}
 use Rattle.pen.proofs.polygon.equal.Tie as tie
 

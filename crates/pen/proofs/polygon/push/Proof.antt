@@ -1,5 +1,5 @@
 -- The two answers are the two cases of the definition.
-use Rattle.pen.proofs.Laid.{skipped, added}
+use Rattle.pen.proofs.Laid.{pushed-skipped, pushed-added}
 use Rattle.plane.specs.Point.{pt, same}
 use Rattle.integers.proofs.Machine.{par}
 use mir.Syntax.{w8}
@@ -18,7 +18,7 @@ equal-requires : tie.Need-equal-requires
 equal-requires c κs = search needs
 
 returns : tie.Need-returns
-returns c = let a = c .before .before .args in skipped (a .p) (pt (a .ax) (a .ay)) (pt (a .bx) (a .by)) (sym (told (c .before)) ∙ c .if1 .taken)
+returns c = let a = c .before .before .args in pushed-skipped (a .p) (pt (a .ax) (a .ay)) (pt (a .bx) (a .by)) (sym (told (c .before)) ∙ c .if1 .taken)
 
 element-set-from-ax : tie.Need-element-set-from-ax
 element-set-from-ax c = search needs
@@ -33,7 +33,7 @@ returns-2 : tie.Need-returns-2
 returns-2 c =
     let f = c .before .before .fits in
     let a = c .before .before .args in
-    rw (par {w = w8} (f .ax) .reads, par {w = w8} (f .ay) .reads) (added (a .p) (pt (a .ax) (a .ay)) (pt (a .bx) (a .by)) (sym (told (c .before)) ∙ c .if1 .left))
+    rw (par {w = w8} (f .ax) .reads, par {w = w8} (f .ay) .reads) (pushed-added (a .p) (pt (a .ax) (a .ay)) (pt (a .bx) (a .by)) (sym (told (c .before)) ∙ c .if1 .left))
 
 pub push-spec : {M : Type 1} → statement M
 push-spec =

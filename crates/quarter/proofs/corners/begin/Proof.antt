@@ -1,5 +1,5 @@
 -- The upright edge takes the place of the one after the corner.
-use mathlib.Core.Path.{_≡_, refl}
+use mathlib.Core.Path.{refl}
 use borrow.Author.Needs.{needs}
 use Rattle.quarter.proofs.corners.begin.Statement.{statement}
 use Rattle.quarter.proofs.corners.begin.Tie as tie

@@ -3,7 +3,6 @@ use Prim.Native.Nat.{_*_, _≤_}
 use Rattle.quarter.proofs.Most.{fit}
 use native.Mathlib.Omega.{arith}
 use native.Mathlib.Nat.{mul-le-mul, add-le-add, le-trans}
-use mathlib.Core.Path.{_≡_}
 use borrow.Author.Needs.{needs}
 use Rattle.quarter.proofs.cut.cut_left.Statement.{statement}
 use Rattle.quarter.proofs.cut.cut_left.Tie as tie

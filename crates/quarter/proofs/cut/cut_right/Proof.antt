@@ -3,7 +3,6 @@ use Prim.Native.Nat.{_*_, _≤_}
 use Rattle.quarter.proofs.Most.{fit}
 use native.Mathlib.Omega.{arith}
 use native.Mathlib.Nat.{mul-le-mul, add-le-add, le-trans}
-use mathlib.Core.Path.{_≡_}
 use borrow.Author.Needs.{needs}
 use Rattle.quarter.proofs.cut.cut_right.Statement.{statement}
 use Rattle.quarter.proofs.cut.cut_right.Tie as tie
@@ -12,6 +11,10 @@ use Rattle.quarter.proofs.cut.cut_right.Tie as tie
 upwards : (c : tie.Start) → c .args .d * c .args .t .before .v ≤ 2048
 upwards c = let p = c .pre in mul-le-mul (le-trans (p .cuttable .left) (p .before .l2-small)) (p .before .v-small)
 
+-- the function's start, seen from where the corner moves up
+abbrev start : tie.After-struct-known3 → tie.Start
+start c = c .before .before .before .before
+
 mul-n : tie.Need-mul-n
 mul-n c = search needs
 
@@ -19,10 +22,10 @@ sub-n : tie.Need-sub-n
 sub-n c = search needs
 
 mul-n-2 : tie.Need-mul-n-2
-mul-n-2 c = fit (upwards (c .before .before .before .before)) tt
+mul-n-2 c = fit (upwards (start c)) tt
 
 add-n : tie.Need-add-n
-add-n c = let s = c .before .before .before .before .before in fit (add-le-add (s .pre .y-small) (upwards s)) tt
+add-n c = let s = start (c .before) in fit (add-le-add (s .pre .y-small) (upwards s)) tt
 
 shorter-end-requires : tie.Need-shorter-end-requires
 shorter-end-requires c κs = search needs

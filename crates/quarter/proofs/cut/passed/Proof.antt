@@ -2,7 +2,6 @@
 use Rattle.quarter.proofs.Most.{fit}
 use native.Mathlib.Omega.{arith}
 use native.Mathlib.Nat.{mul-le-mul, add-le-add}
-use mathlib.Core.Path.{_≡_}
 use borrow.Author.Needs.{needs}
 use Rattle.quarter.proofs.cut.passed.Statement.{statement}
 use Rattle.quarter.proofs.cut.passed.Tie as tie

@@ -24,13 +24,19 @@ passed-requires : tie.Need-passed-requires
 passed-requires c κs = search needs
 
 returns : tie.Need-returns
-returns c = let a = c .before .before .args in let n = c .passed .ensures in record { few = n .few; is = λ rest. goes-out (a .s) (a .t .x) (a .t .y) (a .t .before) (a .r) rest (a .d) (c .before .if1 .taken) (n .is rest) }
+returns c =
+    let a = c .before .before .args in
+    let n = c .passed .ensures in
+    record { few = n .few; is = λ rest. goes-out (a .s) (a .t .x) (a .t .y) (a .t .before) (a .r) rest (a .d) (c .before .if1 .taken) (n .is rest) }
 
 cut-requires : tie.Need-cut-requires
 cut-requires c κs = search needs
 
 returns-2 : tie.Need-returns-2
-returns-2 c = let a = c .before .before .args in let n = c .cut .ensures in record { few = n .few; is = λ rest. goes-on (a .s) (a .t .x) (a .t .y) (a .t .before) (a .r) rest (a .d) (c .before .if1 .left) (n .is rest) }
+returns-2 c =
+    let a = c .before .before .args in
+    let n = c .cut .ensures in
+    record { few = n .few; is = λ rest. goes-on (a .s) (a .t .x) (a .t .y) (a .t .before) (a .r) rest (a .d) (c .before .if1 .left) (n .is rest) }
 
 pub step-spec : {M : Type 1} → statement M
 step-spec = tie.close (tie.spec passed-requires returns cut-requires returns-2)
