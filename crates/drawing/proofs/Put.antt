@@ -10,9 +10,10 @@ use lib.ListN.{length, take, drop, replicate, length-append, length-replicate}
 use borrow.Author.Tests.{leb-true, le-leb, lt-leb}
 use Rattle.integers.proofs.Tests.{false-and, and-both}
 use Rattle.packed.specs.Packed.{packedLength}
-use Rattle.pbm.specs.Pbm.{isSize, decimal, header, topFirst, Put, headerPut}
+use Rattle.limits.specs.Sizes.{isSize}
+use Rattle.pbm.specs.Pbm.{decimal, header, topFirst, Put, headerPut}
 use Rattle.pbm.proofs.Decimal.{size-few}
-use Rattle.pbm.proofs.Pieces.{header-length, nothing}
+use Rattle.pbm.proofs.Pieces.{header-length, nothing-put}
 use Rattle.drawing.specs.declared.Written.{Written}
 use Rattle.drawing.specs.Film.{Drawing, rowUpTo, rowOf, film, isRaster, filePut, filmPut}
 use Rattle.drawing.proofs.Over.{over-length}
@@ -68,7 +69,7 @@ header-count columns rows b {n} {o} l e = ap (λ (r : Put). r .count) e ∙ go (
     go true h =
         let s = and-both (isSize columns) (isSize rows) h in
         ap (λ (r : Put). r .count) (put-whole columns rows b (s .0) (s .1) (omega (arith, l, header-most columns rows (s .0) (s .1))))
-    go false h = sym (ap (λ (r : Put). r .count) (nothing columns rows b (first-fails (isSize columns) (isSize rows) (leb (length (header columns rows)) (length b)) h)))
+    go false h = sym (ap (λ (r : Put). r .count) (nothing-put columns rows b (first-fails (isSize columns) (isSize rows) (leb (length (header columns rows)) (length b)) h)))
 
 pub film-least : (columns rows : ℕ) → 0 < filmLength columns rows
 film-least columns rows = omega (arith, header-least columns rows)

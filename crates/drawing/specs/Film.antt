@@ -12,7 +12,8 @@ use Rattle.limits.specs.Refusal.{Refusal, number, raster, room}
 use Rattle.aperture.specs.declared.Table.{Table}
 use Rattle.aperture.specs.Table.{empty, defined}
 use Rattle.packed.specs.Packed.{packedLength, packedCall}
-use Rattle.pbm.specs.Pbm.{isSize, file, started}
+use Rattle.limits.specs.Sizes.{isSize}
+use Rattle.pbm.specs.Pbm.{file, started}
 use Rattle.drawing.specs.declared.Written.{Written}
 
 -- the setting at place i of a list of w, p, q, w, p, q, ..

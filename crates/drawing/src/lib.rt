@@ -7,7 +7,8 @@ ghost use mathlib.Core.Bool.{true, cond};
 ghost use Prim.Native.Nat.{_+_, _*_, _≤_, _<_, min};
 ghost use lib.ListN.{length, getD, replicate};
 ghost use Rattle.packed.specs.Packed.{packedLength};
-ghost use Rattle.pbm.specs.Pbm.{isSize, header, topFirst};
+ghost use Rattle.limits.specs.Sizes.{isSize};
+ghost use Rattle.pbm.specs.Pbm.{header, topFirst};
 ghost use Rattle.drawing.specs.Film.{tableOf, pathOf, laidOver, added, rowOf, film, isRaster, filmPut};
 
 // Document 01's refusal number, and how many bytes were written.

@@ -5,7 +5,8 @@ use mathlib.Core.Path.{_≡_, refl, sym, ap}
 use mathlib.Core.Bool.{Bool, true, cond}
 use lib.ListN.{length, replicate}
 use Rattle.integers.proofs.Tests.{and-both}
-use Rattle.pbm.specs.Pbm.{isSize, header}
+use Rattle.limits.specs.Sizes.{isSize}
+use Rattle.pbm.specs.Pbm.{header}
 use Rattle.drawing.specs.Film.{isRaster}
 use Rattle.drawing.proofs.Put.{filmLength, is-none, is-some, size-most, header-most, header-least, header-count, both, rows-most}
 use borrow.Author.Needs.{needs}

@@ -7,7 +7,7 @@ use lib.ListN.{replicate, length-replicate}
 use lib.Seq.{length-take-le}
 use denote.Ref.{now}
 use Rattle.integers.proofs.Tests.{and-both}
-use Rattle.pbm.specs.Pbm.{isSize}
+use Rattle.limits.specs.Sizes.{isSize}
 use Rattle.drawing.specs.Film.{Drawing, isRaster}
 use Rattle.drawing.proofs.Put.{filmLength, is-none, is-some, size-most, film-least, zeros, no-raster, no-room, is-put}
 use borrow.Author.Needs.{needs}

@@ -4,8 +4,8 @@ use mir.Syntax.{w64}
 use Rattle.integers.proofs.Machine.{par}
 use Rattle.wire.specs.Write.{eightOf}
 use borrow.Author.Needs.{needs}
-use Rattle.extents.proofs.answer.columns.Statement.{statement}
-use Rattle.extents.proofs.answer.columns.Tie as tie
+use Rattle.try_extents.proofs.answer.columns.Statement.{statement}
+use Rattle.try_extents.proofs.answer.columns.Tie as tie
 
 eight-requires : tie.Need-eight-requires
 eight-requires c κs = search needs
@@ -64,7 +64,10 @@ array-read-t53 c = search needs
 returns : tie.Need-returns
 returns c =
     let s = c .before .before in
-    rw (c .before .eight .ensures ∙ ap eightOf (par {w = w64} (s .fits .first) .reads), c .eight2 .ensures ∙ ap eightOf (par {w = w64} (s .fits .last) .reads))
+    rw (
+      c .before .eight .ensures ∙ ap eightOf (par {w = w64} (s .fits .first) .reads),
+      c .eight2 .ensures ∙ ap eightOf (par {w = w64} (s .fits .last) .reads),
+    )
 
 pub columns-spec : {M : Type 1} → statement M
 columns-spec =

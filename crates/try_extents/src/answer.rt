@@ -1,6 +1,6 @@
 // The bytes of an answer.
 ghost use mathlib.Core.Path.{_≡_};
-ghost use Rattle.extents.specs.Answer.{bytesOf};
+ghost use Rattle.try_extents.specs.Answer.{bytesOf};
 
 // The byte 1 and the two columns, lowest byte first.
 pub fn columns(first: i64, last: i64) -> [u8; 17]

@@ -9,11 +9,13 @@ use lib.Seq.{take-suc, take-suc-set}
 use lib.IntN.{ℤ, pos}
 use Rattle.pen.specs.declared.Pen.{Pen}
 use Rattle.plane.specs.Point.{Pt, pt, points, corners}
+use Rattle.limits.specs.Sizes.{penMax}
 use Rattle.wire.specs.Write.{byteOf}
-use Rattle.pens.specs.Answer.{pairs}
+use Rattle.try_pens.specs.Answer.{answerMax, pairs}
 
 -- the lists with a last corner more
-points-snoc : (xs ys : List ℤ) (a b : ℤ) → length xs ≡ length ys → points (xs ++ (a ∷ [])) (ys ++ (b ∷ [])) ≡ points xs ys ++ (pt a b ∷ [])
+points-snoc : (xs ys : List ℤ) (a b : ℤ) →
+    length xs ≡ length ys → points (xs ++ (a ∷ [])) (ys ++ (b ∷ [])) ≡ points xs ys ++ (pt a b ∷ [])
 unfolding points
 points-snoc [] [] a b e = refl
 points-snoc [] (y ∷ ys) a b e = absurd (omega arith)
@@ -42,21 +44,23 @@ two-more out k a b h =
 -- so many corners are written, behind the two bytes that out₀ has
 pub record Going (out₀ : List ℕ) (p : Pen) (out : List ℕ) (i : ℕ) : Type 0 where
   pub within : i ≤ p .count
-  pub long : length out ≡ 266
+  pub long : length out ≡ answerMax
   pub held : take (2 * i + 2) out ≡ take 2 out₀ ++ pairs (corners i (p .x) (p .y))
 
 -- a turn of the loop: one corner more
 pub more : {out₀ out out′ : List ℕ} {p : Pen} {i : ℕ} →
     Going out₀ p out i →
     i < p .count →
-    p .count ≤ 132 →
-    length (p .x) ≡ 132 →
-    length (p .y) ≡ 132 →
+    p .count ≤ penMax →
+    length (p .x) ≡ penMax →
+    length (p .y) ≡ penMax →
     out′ ≡ set (set out (2 * i + 2) (byteOf (getD (p .x) i (pos 0)))) (2 * i + 2 + 1) (byteOf (getD (p .y) i (pos 0))) →
     Going out₀ p out′ (i + 1)
 more {out₀} {out} {out′} {p} {i} g h few lx ly e =
     let a = byteOf (getD (p .x) i (pos 0)) in
     let b = byteOf (getD (p .y) i (pos 0)) in
+    let written = corners i (p .x) (p .y) in
+    let next = pt (getD (p .x) i (pos 0)) (getD (p .y) i (pos 0)) in
     let n : 2 * (i + 1) + 2 ≡ 2 * i + 2 + 2 = omega arith in
     let k : 2 * i + 2 + 1 < length out = omega (arith, g .long) in
     record {
@@ -65,11 +69,12 @@ more {out₀} {out} {out′} {p} {i} g h few lx ly e =
       held =
           rw (n, e) (two-more out (2 * i + 2) a b k
           ∙ ap (λ (l : List ℕ). l ++ (a ∷ b ∷ [])) (g .held)
-          ∙ append-assoc (take 2 out₀) (pairs (corners i (p .x) (p .y))) (a ∷ b ∷ [])
-          ∙ ap (λ (l : List ℕ). take 2 out₀ ++ l) (sym (pairs-snoc (corners i (p .x) (p .y)) (pt (getD (p .x) i (pos 0)) (getD (p .y) i (pos 0)))) ∙ ap pairs (sym (corners-more i (p .x) (p .y) (omega arith) (omega arith)))));
+          ∙ append-assoc (take 2 out₀) (pairs written) (a ∷ b ∷ [])
+          ∙ ap (λ (l : List ℕ). take 2 out₀ ++ l)
+          (sym (pairs-snoc written next) ∙ ap pairs (sym (corners-more i (p .x) (p .y) (omega arith) (omega arith)))));
     }
 
 -- before the first turn
-pub begun : (out₀ : List ℕ) (p : Pen) → length out₀ ≡ 266 → Going out₀ p out₀ 0
+pub begun : (out₀ : List ℕ) (p : Pen) → length out₀ ≡ answerMax → Going out₀ p out₀ 0
 unfolding points pairs
 begun out₀ p h = record { within = omega arith; long = h; held = sym (append-nil (take 2 out₀)) }

@@ -1,10 +1,10 @@
 -- What `build` answers can be encoded.
 use mathlib.Core.Path.{sym, subst}
-use Rattle.pens.specs.Answer.{Encodable}
-use Rattle.pens.proofs.Built.{encodable}
+use Rattle.try_pens.specs.Answer.{Encodable}
+use Rattle.try_pens.proofs.Built.{encodable}
 use borrow.Author.Needs.{needs}
-use Rattle.pens.proofs.one.Statement.{statement}
-use Rattle.pens.proofs.one.Tie as tie
+use Rattle.try_pens.proofs.one.Statement.{statement}
+use Rattle.try_pens.proofs.one.Tie as tie
 
 slice-aggregate-read-full : tie.Need-slice-aggregate-read-full
 slice-aggregate-read-full c = search needs

@@ -20,7 +20,7 @@ fn one() -> bool {
     let p = wire::number(&bytes, 8);
     let q = wire::number(&bytes, 16);
     let b = pen::build(w, p, q);
-    let mut out = [0u8; 266];
+    let mut out = [0u8; answer::ANSWER_MAX];
     let n = answer::encode(b, &mut out);
     io::write_all(STDOUT_FILENO, &out[..n])
 }

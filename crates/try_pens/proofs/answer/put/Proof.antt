@@ -2,8 +2,8 @@
 use mir.Syntax.{w8}
 use borrow.Author.Needs.{needs}
 use Rattle.integers.proofs.Machine.{par}
-use Rattle.pens.proofs.answer.put.Statement.{statement}
-use Rattle.pens.proofs.answer.put.Tie as tie
+use Rattle.try_pens.proofs.answer.put.Statement.{statement}
+use Rattle.try_pens.proofs.answer.put.Tie as tie
 
 byte-requires : tie.Need-byte-requires
 byte-requires c κs = search needs
@@ -21,7 +21,9 @@ element-write-out-2 : tie.Need-element-write-out-2
 element-write-out-2 c = search needs
 
 returns : tie.Need-returns
-returns c = let f = c .before .before .fits in rw (c .before .byte .ensures, c .byte2 .ensures, par {w = w8} (f .x) .reads, par {w = w8} (f .y) .reads)
+returns c =
+    let f = c .before .before .fits in
+    rw (c .before .byte .ensures, c .byte2 .ensures, par {w = w8} (f .x) .reads, par {w = w8} (f .y) .reads)
 
 pub put-spec : {M : Type 1} → statement M
 put-spec =

@@ -8,15 +8,19 @@ use mir.Syntax.{w8}
 use denote.Ref.{now}
 use borrow.Author.Needs.{needs}
 use Rattle.integers.proofs.Machine.{known}
-use Rattle.pens.proofs.Bytes.{Going, begun, more, two-more}
-use Rattle.pens.proofs.answer.encode.Statement.{statement}
-use Rattle.pens.proofs.answer.encode.Tie as tie
+use Rattle.try_pens.proofs.Bytes.{Going, begun, more, two-more}
+use Rattle.try_pens.proofs.answer.encode.Statement.{statement}
+use Rattle.try_pens.proofs.answer.encode.Tie as tie
 
 abbrev Inv-loop : tie.InvT-loop
 Inv-loop out₀ pen i₀ out i = Going out₀ pen out i
 
 abbrev μ-loop : tie.MeasureT-loop
 μ-loop out₀ pen i₀ out i = pen .count - i
+
+-- at the head of the loop: the call
+abbrev start : tie.At-loop Inv-loop μ-loop → tie.Start Inv-loop μ-loop
+start k = k .before .before .before
 
 cast-out : tie.Need-cast-out Inv-loop μ-loop
 cast-out c = search needs
@@ -56,11 +60,11 @@ loop-less c = search needs
 
 loop-again : tie.Need-loop-again Inv-loop μ-loop
 loop-again c =
-    let s = c .before .before .before .before .before .before .before .before in
-    let i = c .before .before .before .before .before .loop .i in
-    let b = s .pre .0 in
-    more (c .before .before .before .before .before .loop .inv) (search needs) (b .few) (b .x-long) (b .y-long)
-    (rw (← known {w = w8} (b .x-small i) tt .reads, ← known {w = w8} (b .y-small i) tt .reads) (c .put .ensures))
+    let turn = c .before .before .before .before in
+    let k = turn .before in
+    let b = start k .pre .0 in
+    more (k .loop .inv) (search needs) (b .few) (b .x-long) (b .y-long)
+    (rw (← known {w = w8} (b .x-small (k .loop .i)) tt .reads, ← known {w = w8} (b .y-small (k .loop .i)) tt .reads) (c .put .ensures))
 
 mul-result : tie.Need-mul-result Inv-loop μ-loop
 mul-result c = search needs
@@ -70,11 +74,12 @@ add-result c = search needs
 
 returns : tie.Need-returns Inv-loop μ-loop
 returns c =
-    let s = c .before .before .before .before in
-    let g = c .before .loop .inv in
-    let e : c .before .loop .i ≡ s .args .b .pen .count = omega arith in
+    let k = c .before in
+    let s = start k in
+    let g = k .loop .inv in
+    let e : k .loop .i ≡ s .args .b .pen .count = omega arith in
     let two : 0 + 1 < length (now (s .args .out)) = omega (arith, s .pre .1) in
-    let n : 2 * c .before .loop .i + 2 ≤ length (c .before .loop .out) = omega (arith, g .long) in
+    let n : 2 * k .loop .i + 2 ≤ length (k .loop .out) = omega (arith, g .long) in
     ((n, sym (length-take-le _ _ n)), g .held ∙ rw (two-more (now (s .args .out)) 0, e) refl)
 
 pub encode-spec : {M : Type 1} → statement M

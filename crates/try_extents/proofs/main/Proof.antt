@@ -1,7 +1,7 @@
 -- Nothing has to hold from turn to turn; the measure is the number of turns that are left.
 use native.Mathlib.Omega.{arith}
-use Rattle.pens.proofs.main.Statement.{statement}
-use Rattle.pens.proofs.main.Tie as tie
+use Rattle.try_extents.proofs.main.Statement.{statement}
+use Rattle.try_extents.proofs.main.Tie as tie
 
 abbrev Inv-loop : tie.InvT-loop
 Inv-loop turns₀ turns = Unit {0}

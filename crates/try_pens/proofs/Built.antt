@@ -3,7 +3,7 @@ use Prim.Native.Nat.{ℕ, suc, _≤_}
 use native.Mathlib.Omega.{arith}
 use mathlib.Core.Path.{_≡_, refl, sym, subst}
 use mathlib.Core.Bool.{Bool, true, false}
-use mathlib.Core.List.{List, [], _∷_, map, List·Memᴰ·not-nil}
+use mathlib.Core.List.{List, [], map, List·Memᴰ·not-nil}
 use lib.Dec.{leb→le}
 use lib.ListN.{length}
 use lib.IntN.{ℤ, pos, negsuc, negℤ}
@@ -11,6 +11,7 @@ use Rattle.integers.specs.Orders.{_≼_}
 use Rattle.integers.specs.Count.{_∈_}
 use Rattle.integers.specs.Bound.{Abs}
 use Rattle.integers.proofs.Bound.{abs-le}
+use Rattle.limits.specs.Sizes.{penMax}
 use Rattle.setting.specs.declared.Setting.{Setting}
 use Rattle.setting.specs.Setting.{Taken, taken, Dx, Dy}
 use Rattle.plane.specs.Point.{Pt}
@@ -21,7 +22,7 @@ use Rattle.quarter.proofs.Laid.{laid-long, laid-small}
 use Rattle.setting.proofs.Limits.{taken-iff, box-wide, box-high}
 use Rattle.pen.proofs.Theorems.{pen-few, pen-is-pen}
 use Rattle.pen.proofs.Answers.{pen-built, none-built}
-use Rattle.pens.specs.Answer.{Encodable}
+use Rattle.try_pens.specs.Answer.{Encodable}
 
 both : (z : ℤ) (n : ℕ) → z ≼ pos n → negℤ z ≼ pos n → Abs z n
 both (pos m) n h k = record { abs = leb→le m n (h .le) }
@@ -33,15 +34,15 @@ Small cs = (z : Pt) → z ∈ cs → Abs (z .x) 32 × Abs (z .y) 32
 coordinate : (f : Pt → ℤ) (cs : List Pt) → ((z : Pt) → z ∈ cs → Abs (f z) 32) → (a : ℤ) → a ∈ map f cs → Abs a 32
 coordinate f cs h a m = let p = map-mem f cs m in subst (λ (x : ℤ). Abs x 32) (sym (p .2)) (h (p .0) (p .1))
 
-laid : (r : ℕ) (cs : List Pt) → r ≤ 255 → length cs ≤ 132 → Small cs → Encodable (record { refusal = r; pen = penOf cs })
+laid : (r : ℕ) (cs : List Pt) → r ≤ 255 → length cs ≤ penMax → Small cs → Encodable (record { refusal = r; pen = penOf cs })
 unfolding Small
 laid r cs k few small = record {
   refusal-small = k;
   few = few;
-  x-long = laid-long 132 (λ z. z .x) cs few;
-  y-long = laid-long 132 (λ z. z .y) cs few;
-  x-small = laid-small 32 132 (map (λ z. z .x) cs) (coordinate (λ z. z .x) cs (λ z m. small z m .0));
-  y-small = laid-small 32 132 (map (λ z. z .y) cs) (coordinate (λ z. z .y) cs (λ z m. small z m .1));
+  x-long = laid-long penMax (λ z. z .x) cs few;
+  y-long = laid-long penMax (λ z. z .y) cs few;
+  x-small = laid-small 32 penMax (map (λ z. z .x) cs) (coordinate (λ z. z .x) cs (λ z m. small z m .0));
+  y-small = laid-small 32 penMax (map (λ z. z .y) cs) (coordinate (λ z. z .y) cs (λ z m. small z m .1));
 }
 
 pen-small : (σ : Setting) → Taken σ → Small (pen σ)
