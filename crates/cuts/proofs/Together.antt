@@ -10,6 +10,7 @@ use lib.Dec.{leb}
 use lib.IntN.{pos}
 use lib.ListN.{length, replicate, length-replicate}
 use Rattle.integers.proofs.Tests.{and-true}
+use Rattle.integers.specs.Count.{_∈_}
 use Rattle.plane.specs.Point.{Pt}
 use Rattle.limits.specs.Sizes.{rasterMax, isSize, Size}
 use Rattle.limits.proofs.Sizes.{size-iff}
@@ -17,11 +18,10 @@ use Rattle.stroke.specs.Sweep.{segments}
 use Rattle.stroke.specs.Runs.{blackAt}
 use Rattle.cuts.specs.declared.Bounds.{Bounds}
 use Rattle.cuts.specs.declared.cut.Cut.{Cut}
-use Rattle.cuts.specs.declared.cut.Cut.the-variants as cut·
 use Rattle.cuts.specs.declared.Touch.the-variants as touch·
-use Rattle.cuts.specs.Cuts.{cuts, touchOf, touchIn, farOf, boundsOf, unbounded, Together, together, Bounded, blackCut, blackFar}
-use Rattle.cuts.proofs.Marked.{Within, black-far}
-use Rattle.cuts.proofs.Raster.{Near, cuts-below, black-cut}
+use Rattle.cuts.specs.Cuts.{cuts, Below, touchOf, touchIn, farOf, boundsOf, unbounded, Together, together, Bounded, blackCut, blackFar}
+use Rattle.cuts.proofs.Marked.{black-far}
+use Rattle.cuts.proofs.Raster.{Near, cuts-below, below-more, black-cut}
 use Rattle.cuts.proofs.Touches.{untouched-black, one-black, one-in}
 use Rattle.cuts.proofs.Between.{clear-at, bounded-none, bounded-all}
 
@@ -65,9 +65,9 @@ module _ (cs path : List Pt) (columns j : ℕ) (s : Size columns) where
   unfolding row-cuts
   fills = sym (together-some cs path columns j blank (and-true _ _ (size-iff columns .1 s) (le-leb columns (length blank) long-enough)) refl refl)
 
-  within : Within rasterMax row-cuts
+  within : (c : Cut) → c ∈ row-cuts → Below rasterMax c
   unfolding row-cuts
-  within l r m = let b = cuts-below cs path columns j (cut·.Columns l r) m l r refl in (b .0, omega arith)
+  within c m = below-more (s .few) (cuts-below cs path columns j c m)
 
   -- ---- the bounds of an array in which a row was put together
   pub together-bounded : {far : List ℕ} {b : Bounds} → record { far = far; bounds = b } ≡ together cs path columns j (replicate rasterMax 0) → Bounded far (b .first) (b .end) × (b .end ≤ columns)

@@ -26,6 +26,18 @@ fn mark(far: &mut [u16], left: usize, right: usize)
     far[left] = max_u16(far[left], end);
 }
 
+// The same of a cut that may have no columns.
+fn mark_cut(far: &mut [u16], cut: Cut)
+    requires in_array { ⌜ Below (length (now far)) cut ⌝ }
+    requires in_raster { ⌜ Below rasterMax cut ⌝ }
+    ensures { λ _. ⌜ now (far .exit) ≡ farther (now (far .entry)) cut ⌝ }
+{
+    let Cut::Columns(left, right) = cut else {
+        return;
+    };
+    mark(far, left, right);
+}
+
 // One cut more between the bounds.
 fn widen(b: Bounds, left: usize, right: usize) -> Bounds
     requires { ⌜ right < rasterMax ⌝ }
@@ -41,17 +53,7 @@ fn widen(b: Bounds, left: usize, right: usize) -> Bounds
     Bounds { first: left, end }
 }
 
-fn mark_cut(far: &mut [u16], cut: Cut)
-    requires in_array { ⌜ Below (length (now far)) cut ⌝ }
-    requires in_raster { ⌜ Below rasterMax cut ⌝ }
-    ensures { λ _. ⌜ now (far .exit) ≡ farther (now (far .entry)) cut ⌝ }
-{
-    let Cut::Columns(left, right) = cut else {
-        return;
-    };
-    mark(far, left, right);
-}
-
+// The same of a cut that may have no columns.
 fn widen_cut(b: Bounds, cut: Cut) -> Bounds
     requires { ⌜ Below rasterMax cut ⌝ }
     ensures { λ r. ⌜ r ≡ wider b cut ⌝ }

@@ -33,8 +33,8 @@ module _ (ax ay bx by : ℤ) (j : ℕ) (e : allowed ax ay bx by j ≡ true) wher
       let k = and-both (inRange bx && inRange by) (isRow j) (h .1) in
       (and-both (inRange ax) (inRange ay) (h .0), and-both (inRange bx) (inRange by) (k .0), k .1)
 
-  pub near : (g : Ends) → ends g ≡ seg ax ay bx by → Near g j
-  near g q = record {
+  pub allowed-near : (g : Ends) → ends g ≡ seg ax ay bx by → Near g j
+  allowed-near g q = record {
     ax-small = small (λ s. s .from .x) (range-small ax (parts .0 .0));
     ay-small = small (λ s. s .from .y) (range-small ay (parts .0 .1));
     bx-small = small (λ s. s .to .x) (range-small bx (parts .1 .0));

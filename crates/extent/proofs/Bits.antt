@@ -40,13 +40,13 @@ min-of : (P : ℤ → Type 0) {x y : ℤ} → P x → P y → P (minZ x y)
 min-of P {x} {y} p q = elim (min-case x y) [ inl h ↦ subst P (sym (h .0)) p | inr h ↦ subst P (sym (h .0)) q ]
 
 module _ {w : Width} {x y r : ℤ} {m k n : ℕ} (p : Is w x m n) (q : Is w y k n) where
-  pub greatest : r ≡ maxZ (toZ w m) (toZ w k) → Is w (maxZ x y) (ofZ w r) n
-  greatest e =
+  pub max-is : r ≡ maxZ (toZ w m) (toZ w k) → Is w (maxZ x y) (ofZ w r) n
+  max-is e =
       let f = e ∙ ap₂ maxZ (p .reads) (q .reads) in
       got (subst (SFits w) (sym f) (max-of (SFits w) (p .fits) (q .fits))) f (max-of (λ z. Abs z n) (p .abs) (q .abs))
 
-  pub least : r ≡ minZ (toZ w m) (toZ w k) → Is w (minZ x y) (ofZ w r) n
-  least e =
+  pub min-is : r ≡ minZ (toZ w m) (toZ w k) → Is w (minZ x y) (ofZ w r) n
+  min-is e =
       let f = e ∙ ap₂ minZ (p .reads) (q .reads) in
       got (subst (SFits w) (sym f) (min-of (SFits w) (p .fits) (q .fits))) f (min-of (λ z. Abs z n) (p .abs) (q .abs))
 

@@ -22,7 +22,7 @@ head F [] = F
 head F (P ∷ l) = P
 
 -- the edges from the corners of the list, the last one to F
-pub rest : Pt → List Pt → List Side
+rest : Pt → List Pt → List Side
 rest F [] = []
 rest F (P ∷ l) = chain F P l
 

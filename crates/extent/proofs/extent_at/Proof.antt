@@ -18,7 +18,7 @@ use Rattle.stroke.specs.Extent.{Left, narrowed, spanOf, reached}
 use Rattle.extent.specs.Answer.{seg, allowed, answered}
 use Rattle.extent.specs.Held.{start, ends, Near, Held}
 use Rattle.extent.proofs.Read.{corners-all}
-use Rattle.extent.proofs.Answered.{near, none-outside, none-beyond, some-within}
+use Rattle.extent.proofs.Answered.{allowed-near, none-outside, none-beyond, some-within}
 use borrow.Author.Needs.{needs}
 use Rattle.extent.proofs.extent_at.Statement.{statement}
 use Rattle.extent.proofs.extent_at.Tie as tie
@@ -53,7 +53,7 @@ segment : (c : tie.After-wide) → let a = start-of (tested c) .args in ends (c 
 segment c = c .wide .ensures ∙ ends-read (start-of (tested c))
 
 near-ends : (c : tie.After-wide) → Near (c .wide .result) (start-of (tested c) .args .row)
-near-ends c = let a = start-of (tested c) .args in near (a .ax) (a .ay) (a .bx) (a .by) (a .row) (yes (tested c)) (c .wide .result) (segment c)
+near-ends c = let a = start-of (tested c) .args in allowed-near (a .ax) (a .ay) (a .bx) (a .by) (a .row) (yes (tested c)) (c .wide .result) (segment c)
 
 -- the corners are in the arrays, and are all
 fewest : (c : tie.After-wide) → let a = start-of (tested c) .args in

@@ -10,7 +10,7 @@ use Rattle.integers.proofs.Machine.{Is, known, num, mul, mul-fits, add, add-fit
 use Rattle.plane.specs.Polygon.{Side}
 use Rattle.stroke.specs.Extent.{narrow}
 use Rattle.extent.specs.Held.{left, Near}
-use Rattle.extent.proofs.Bits.{bits, _⊕_, _⊖_, _⊗_, greatest, ap₃}
+use Rattle.extent.proofs.Bits.{bits, _⊕_, _⊖_, _⊗_, max-is, ap₃}
 use borrow.Author.Needs.{needs}
 use Rattle.extent.proofs.side.edge.Statement.{statement}
 use Rattle.extent.proofs.side.edge.Tie as tie
@@ -80,7 +80,7 @@ abbrev further : tie.Start → ℤ
 further s = let g = s .args .g in maxZ (out-to s (g .ax) (g .ay)) (out-to s (g .bx) (g .by))
 
 out : (c : tie.After-max) → Is w64 (further (begun (c .before))) (bits (c .max .result)) (2 ^ 27)
-out c = let s = begun (c .before) in greatest (at-A s) (at-B s) (c .max .ensures)
+out c = let s = begun (c .before) in max-is (at-A s) (at-B s) (c .max .ensures)
 
 line : (c : tie.After-max) → let s = begun (c .before) in
     let r = s .args in

@@ -11,7 +11,7 @@ use Rattle.integers.proofs.Machine.{Is, known, num, weaken, mul, mul-fits, add,
 use Rattle.plane.specs.Point.{corners}
 use Rattle.plane.specs.Polygon.{dot}
 use Rattle.stroke.specs.Sides.{furthest}
-use Rattle.extent.proofs.Bits.{bits, _⊕_, _⊗_, coordinate, greatest}
+use Rattle.extent.proofs.Bits.{bits, _⊕_, _⊗_, coordinate, max-is}
 use Rattle.extent.proofs.Read.{place, furthest-none, furthest-more}
 use Rattle.extent.proofs.side.furthest.Statement.{statement}
 use Rattle.extent.proofs.side.furthest.Tie as tie
@@ -93,7 +93,7 @@ loop-again c =
     let inv = at-loop .loop .inv in
     let h = s .pre .0 in
     let e = furthest-more (toZ w64 (bits (r .a))) (toZ w64 (bits (r .b))) (r .n) (now (r .xs)) (now (r .ys)) (at-loop .loop .i) (h .in-xs) (h .in-ys) (omega arith) (inv .0) in
-    (omega arith, along (sym e) (greatest (corner-out (c .before)) (inv .1) (c .max .ensures)))
+    (omega arith, along (sym e) (max-is (corner-out (c .before)) (inv .1) (c .max .ensures)))
 
 returns : tie.Need-returns Inv-loop μ-loop
 returns c =

@@ -13,7 +13,7 @@ use Rattle.integers.proofs.Tests.{true-and, false-and}
 use Rattle.integers.proofs.Machine.{Is, known, num, mul, mul-fits, add, add-fits, sub, sub-fits, leZ-at}
 use Rattle.plane.specs.Polygon.{reach}
 use Rattle.plane.specs.Point.{corners}
-use Rattle.extent.proofs.Bits.{bits, _⊖_, _⊗_, row-number, row-place, greatest, least}
+use Rattle.extent.proofs.Bits.{bits, _⊖_, _⊗_, row-number, row-place, max-is, min-is}
 use borrow.Author.Needs.{needs}
 use Rattle.extent.proofs.side.reached.Statement.{statement}
 use Rattle.extent.proofs.side.reached.Tie as tie
@@ -33,10 +33,10 @@ far c = mul (num (pos 8) tt) (known (c .reach .ensures .1) tt) tt
 
 -- the lesser and the greater y of the ends
 low : (c : tie.After-min) → let g = reach-of c .before .args .g in Is w64 (minZ (g .ay) (g .by)) (bits (c .min .result)) (2 ^ 18)
-low c = let n = reach-of c .before .pre .1 in least (known (n .ay-small) tt) (known (n .by-small) tt) (c .min .ensures)
+low c = let n = reach-of c .before .pre .1 in min-is (known (n .ay-small) tt) (known (n .by-small) tt) (c .min .ensures)
 
 high : (c : tie.After-max) → let g = reach-at c .before .args .g in Is w64 (maxZ (g .ay) (g .by)) (bits (c .max .result)) (2 ^ 18)
-high c = let n = reach-at c .before .pre .1 in greatest (known (n .ay-small) tt) (known (n .by-small) tt) (c .max .ensures)
+high c = let n = reach-at c .before .pre .1 in max-is (known (n .ay-small) tt) (known (n .by-small) tt) (c .max .ensures)
 
 -- the first test
 lower : (c : tie.After-min) (xs : List ℤ) → let a = reach-of c .before .args in a .n ≤ length xs →
