@@ -8,7 +8,7 @@ use setting::Setting;
 ghost use mathlib.Core.Path.{_≡_};
 ghost use Prim.Native.Nat.{_+_, _-_, _*_, _≤_};
 ghost use Rattle.setting.specs.Setting.{Taken};
-ghost use Rattle.quarter.specs.Cutting.{amount, retained, cutEdge, shortL, shortR, cutBoth, cutLeft, cutRight, cutNew, cut, passed};
+ghost use Rattle.quarter.specs.Cutting.{amount, retained, retainedAt, cutEdge, shortL, shortR, cutBoth, cutLeft, cutRight, cutNew, cut, passed};
 ghost use Rattle.quarter.specs.Moment.{Small};
 ghost use Rattle.quarter.specs.Held.{Summed, Room, Leads, Stepped};
 
@@ -135,7 +135,7 @@ fn cut_right(t: Work, r: Edge, d: u64) -> Work
 fn cut_new(s: Setting, t: Work, r: Edge, d: u64) -> Work
     requires setting { ⌜ Taken s ⌝ }
     requires room { ⌜ Room t r d ⌝ }
-    ensures { λ n. ⌜ Leads n (cutNew (t .x) (t .y) d (retained s (t .before .u + r .u) (t .before .v + r .v) (t .before .c + r .c - d) (t .x - d * t .before .u) d) (t .before) r) ⌝ }
+    ensures { λ n. ⌜ Leads n (cutNew (t .x) (t .y) d (retainedAt s (t .x) d (t .before) r) (t .before) r) ⌝ }
 {
     let l = t.before;
     let x = t.x - d * l.u;
