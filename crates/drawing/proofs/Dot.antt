@@ -6,7 +6,8 @@ use mathlib.Core.Bool.{true}
 use mathlib.Core.List.{List, [], _∷_, _++_}
 use lib.ListN.{length, getD}
 use lib.IntN.{pos}
-use Rattle.setting.specs.Setting.{Taken, taken, Dx, Dy}
+use Rattle.setting.specs.Setting.{taken, Dx, Dy}
+use Rattle.setting.specs.Answer.{checked}
 use Rattle.quarter.specs.NearRoot.{norm, lower, tried, bisect, nearRoot}
 use Rattle.quarter.specs.Cutting.{amount, retained, corners, quarter}
 use Rattle.pen.specs.Polygon.{upAndBack, onceEach, pen}
@@ -34,7 +35,7 @@ unfolding taken
 is-taken = refl
 
 place : placeOf (defined empty 10 dotSetting .table) 10 ≡ holding dotSetting
-unfolding defined taken
+unfolding defined checked taken
 place = refl
 
 holds : Holds (tableOf (16 ∷ 1 ∷ 1 ∷ [])) 10 dotSetting

@@ -12,7 +12,7 @@ use lib.Seq.{take-all, take-at, take-nil, drop-nil, length-take-le, slice}
 use lib.IntN.{ℤ}
 use borrow.Author.Tests.{leb-true, leb-false}
 use Rattle.aperture.specs.Table.{empty, defined}
-use Rattle.limits.specs.Sizes.{isSize}
+use Rattle.limits.specs.Sizes.{apertureMin, isSize}
 use Rattle.pbm.specs.Pbm.{header, topFirst, started, Put, headerPut}
 use Rattle.pbm.proofs.Pieces.{header-fits, header-put}
 use Rattle.drawing.specs.Film.{settingAt, tableUpTo, Drawing, pathOf, added, rowUpTo}
@@ -21,7 +21,7 @@ pub none : (l : List ℕ) → empty ≡ tableUpTo l 0
 unfolding tableUpTo
 none l = refl
 
-pub one-more : (l : List ℕ) (i : ℕ) → defined (tableUpTo l i) (10 + i) (settingAt l i) .table ≡ tableUpTo l (i + 1)
+pub one-more : (l : List ℕ) (i : ℕ) → defined (tableUpTo l i) (apertureMin + i) (settingAt l i) .table ≡ tableUpTo l (i + 1)
 unfolding tableUpTo
 one-more l i = rw (add-one i)
 

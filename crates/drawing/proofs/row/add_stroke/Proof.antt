@@ -8,8 +8,8 @@ use Rattle.checks.specs.Answer.{Result}
 use Rattle.packed.specs.Packed.{packedCall}
 use Rattle.drawing.specs.Film.{laidOver}
 use borrow.Author.Needs.{needs}
-use Rattle.drawing.proofs.add_stroke.Statement.{statement}
-use Rattle.drawing.proofs.add_stroke.Tie as tie
+use Rattle.drawing.proofs.row.add_stroke.Statement.{statement}
+use Rattle.drawing.proofs.row.add_stroke.Tie as tie
 
 packed-row-requires : tie.Need-packed-row-requires
 packed-row-requires c κs = search needs

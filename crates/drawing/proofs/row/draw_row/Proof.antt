@@ -9,8 +9,8 @@ use denote.Ref.{now}
 use Rattle.drawing.specs.Film.{Drawing, pathOf, added, rowUpTo}
 use Rattle.drawing.proofs.Rows.{row-none, row-more}
 use borrow.Author.Needs.{needs}
-use Rattle.drawing.proofs.draw_row.Statement.{statement}
-use Rattle.drawing.proofs.draw_row.Tie as tie
+use Rattle.drawing.proofs.row.draw_row.Statement.{statement}
+use Rattle.drawing.proofs.row.draw_row.Tie as tie
 
 abbrev zeros : ℕ → List ℕ
 zeros n = replicate n 0

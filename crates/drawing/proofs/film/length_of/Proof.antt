@@ -10,8 +10,8 @@ use Rattle.pbm.specs.Pbm.{header}
 use Rattle.drawing.specs.Film.{isRaster}
 use Rattle.drawing.proofs.Put.{filmLength, is-none, is-some, size-most, header-most, header-least, header-count, both, rows-most}
 use borrow.Author.Needs.{needs}
-use Rattle.drawing.proofs.film_length.Statement.{statement}
-use Rattle.drawing.proofs.film_length.Tie as tie
+use Rattle.drawing.proofs.film.length_of.Statement.{statement}
+use Rattle.drawing.proofs.film.length_of.Tie as tie
 
 -- what the call answered
 answered : (c : tie.After-header2) → c .before .put-header .result ≡ cond (isRaster (c .before .before .before .args .columns) (c .before .before .before .args .rows)) (length (header (c .before .before .before .args .columns) (c .before .before .before .args .rows))) 0
@@ -58,8 +58,8 @@ returns-2 c =
     let r = raster (c .before) in
     both (isRaster (a .columns) (a .rows)) (a .rows) (r .0) (r .1) (c .row-length .ensures)
 
-pub film-length-spec : {M : Type 1} → statement M
-film-length-spec =
+pub length-of-spec : {M : Type 1} → statement M
+length-of-spec =
     tie.close
     (tie.spec
     slice-aggregate-put-header

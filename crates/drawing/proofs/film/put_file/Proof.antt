@@ -11,8 +11,8 @@ use Rattle.pbm.specs.Pbm.{header, topFirst, started, Put}
 use Rattle.drawing.specs.Film.{Drawing, rowOf}
 use Rattle.drawing.proofs.Rows.{put-whole, replaced}
 use borrow.Author.Needs.{needs}
-use Rattle.drawing.proofs.put_file.Statement.{statement}
-use Rattle.drawing.proofs.put_file.Tie as tie
+use Rattle.drawing.proofs.film.put_file.Statement.{statement}
+use Rattle.drawing.proofs.film.put_file.Tie as tie
 
 -- the header as it was put
 put : (c : tie.After-put-header) → _≡_ {A = Put} (record { count = c .put-header .result; buffer = c .put-header .last .0 })

@@ -8,8 +8,8 @@ use lib.Seq.{take-suc-set, take-all}
 use denote.Ref.{now}
 use Rattle.drawing.proofs.Over.{replicate-snoc}
 use borrow.Author.Needs.{needs}
-use Rattle.drawing.proofs.clear.Statement.{statement}
-use Rattle.drawing.proofs.clear.Tie as tie
+use Rattle.drawing.proofs.row.clear.Statement.{statement}
+use Rattle.drawing.proofs.row.clear.Tie as tie
 
 abbrev Inv-loop : tie.InvT-loop
 Inv-loop b₀ i₀ b i = (i ≤ length b₀) × (length b ≡ length b₀) × (take i b ≡ replicate i 0)

@@ -2,8 +2,8 @@
 use native.Mathlib.Omega.{arith}
 use Rattle.drawing.proofs.Put.{size-most}
 use borrow.Author.Needs.{needs}
-use Rattle.drawing.proofs.row_length.Statement.{statement}
-use Rattle.drawing.proofs.row_length.Tie as tie
+use Rattle.drawing.proofs.film.row_length.Statement.{statement}
+use Rattle.drawing.proofs.film.row_length.Tie as tie
 
 add-result : tie.Need-add-result
 add-result c = omega (arith, size-most (c .args .columns) (c .pre))

@@ -11,8 +11,8 @@ use Rattle.drawing.specs.Film.{Drawing, rowOf}
 use borrow.Rule.Slice.PartMut.{same-len-mid}
 use Rattle.drawing.proofs.Rows.{turn, put-row, last-row}
 use borrow.Author.Needs.{needs}
-use Rattle.drawing.proofs.put_rows.Statement.{statement}
-use Rattle.drawing.proofs.put_rows.Tie as tie
+use Rattle.drawing.proofs.film.put_rows.Statement.{statement}
+use Rattle.drawing.proofs.film.put_rows.Tie as tie
 
 abbrev zeros : ℕ → List ℕ
 zeros n = replicate n 0

@@ -11,8 +11,8 @@ use denote.Ref.{now}
 use Rattle.drawing.specs.Film.{laidOver}
 use Rattle.drawing.proofs.Over.{over-nil, over-step, over-past, over-all}
 use borrow.Author.Needs.{needs}
-use Rattle.drawing.proofs.lay_over.Statement.{statement}
-use Rattle.drawing.proofs.lay_over.Tie as tie
+use Rattle.drawing.proofs.row.lay_over.Statement.{statement}
+use Rattle.drawing.proofs.row.lay_over.Tie as tie
 
 abbrev Inv-loop : tie.InvT-loop
 Inv-loop dst₀ src i₀ dst i = (i ≤ length dst₀) × (length dst ≡ length dst₀) × (dst ≡ laidOver dst₀ (take i src))
