@@ -10,7 +10,7 @@ use denote.Ref.{now}
 use Rattle.pbm.proofs.Decimal.{Written, written, size-short}
 use Rattle.pbm.proofs.Pieces.{nothing-put, header-put, bad-columns, bad-rows, header-too-long, header-fits, header-length, same-digits}
 use Rattle.limits.specs.Sizes.{isSize}
-use Rattle.pbm.specs.Pbm.{decimal, header, fits}
+use Rattle.pbm.specs.Pbm.{decimal, header}
 use borrow.Author.Tests.{not-true, not-false}
 use borrow.Author.Needs.{needs}
 use Rattle.pbm.proofs.put_header.Statement.{statement}
