@@ -50,7 +50,7 @@ says : (c : tie.After-known-told) → checked (given (c .before .before .before)
 says c = sym (c .before .before .before .check .ensures) ∙ c .before .s .given .1
 
 check-requires : tie.Need-check-requires
-check-requires c κs = search needs
+check-requires c κs = tt
 
 enum-known-s : tie.Need-enum-known-s
 enum-known-s c = search needs
@@ -59,7 +59,7 @@ enum-told : tie.Need-enum-told
 enum-told c = search needs
 
 none-requires : tie.Need-none-requires
-none-requires c κs = search needs
+none-requires c κs = tt
 
 returns : tie.Need-returns
 returns c =
@@ -68,7 +68,7 @@ returns c =
     none-of (given check) (sym (check .check .ensures) ∙ refused .enum-told .given .1) (c .none .ensures)
 
 build-requires : tie.Need-build-requires
-build-requires c κs = search needs
+build-requires c κs = tt
 
 mirrored-requires : tie.Need-mirrored-requires
 mirrored-requires c κs = can-mirror _ _ (says (c .before)) (c .build .ensures)

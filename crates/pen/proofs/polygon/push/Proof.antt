@@ -15,7 +15,7 @@ told c =
     c .equal .ensures ∙ ap₂ same (ap₂ pt (par {w = w8} (f .ax) .reads) (par {w = w8} (f .ay) .reads)) (ap₂ pt (par {w = w8} (f .bx) .reads) (par {w = w8} (f .by) .reads))
 
 equal-requires : tie.Need-equal-requires
-equal-requires c κs = search needs
+equal-requires c κs = tt
 
 returns : tie.Need-returns
 returns c = let a = c .before .before .args in pushed-skipped (a .p) (pt (a .ax) (a .ay)) (pt (a .bx) (a .by)) (sym (told (c .before)) ∙ c .if1 .taken)

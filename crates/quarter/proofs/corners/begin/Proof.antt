@@ -1,14 +1,13 @@
 -- The upright edge takes the place of the one after the corner.
 use mathlib.Core.Path.{refl}
-use borrow.Author.Needs.{needs}
 use Rattle.quarter.proofs.corners.begin.Statement.{statement}
 use Rattle.quarter.proofs.corners.begin.Tie as tie
 
 width-requires : tie.Need-width-requires
-width-requires c κs = search needs
+width-requires c κs = c .pre
 
 height-requires : tie.Need-height-requires
-height-requires c κs = search needs
+height-requires c κs = c .before .pre
 
 returns : tie.Need-returns
 returns c = (rw (c .before .width .ensures, c .height .ensures), refl)

@@ -59,7 +59,7 @@ unfolding amount
 returns c = rw (lt-ltb _ _ (c .if1 .taken), amount)
 
 min-u64-requires : tie.Need-min-u64-requires
-min-u64-requires c κs = search needs
+min-u64-requires c κs = tt
 
 add-whole : tie.Need-add-whole
 add-whole c = search needs
@@ -71,7 +71,7 @@ add-near-root-2 : tie.Need-add-near-root-2
 add-near-root-2 c = let p = start (at-low c) .pre .1 in fit (add-le-add (p .0 .v-small) (p .1 .v-small)) tt
 
 minus-requires : tie.Need-minus-requires
-minus-requires c κs = search needs
+minus-requires c κs = tt
 
 near-root-requires : tie.Need-near-root-requires
 near-root-requires c κs =

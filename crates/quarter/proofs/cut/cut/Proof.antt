@@ -32,7 +32,7 @@ add-if2 : tie.Need-add-if2
 add-if2 c = search needs
 
 cut-both-requires : tie.Need-cut-both-requires
-cut-both-requires c κs = search needs
+cut-both-requires c κs = start (c .before .before .before) .pre .1
 
 returns : tie.Need-returns
 returns c =
@@ -41,7 +41,7 @@ returns c =
     chosen (a .s) (a .t) (a .r) (a .d) (eq-eqb _ _ (all-of-l .if1 .taken)) (eq-eqb _ _ (c .before .if2 .taken)) (c .cut-both .ensures)
 
 cut-left-requires : tie.Need-cut-left-requires
-cut-left-requires c κs = search needs
+cut-left-requires c κs = start (c .before .before .before) .pre .1
 
 returns-2 : tie.Need-returns-2
 returns-2 c =
@@ -53,7 +53,7 @@ add-if3 : tie.Need-add-if3
 add-if3 c = search needs
 
 cut-right-requires : tie.Need-cut-right-requires
-cut-right-requires c κs = search needs
+cut-right-requires c κs = start (c .before .before .before) .pre .1
 
 returns-3 : tie.Need-returns-3
 returns-3 c =
@@ -62,7 +62,7 @@ returns-3 c =
     chosen (a .s) (a .t) (a .r) (a .d) (ne-eqb _ _ (some-of-l .if1 .left)) (eq-eqb _ _ (c .before .if3 .taken)) (c .cut-right .ensures)
 
 cut-new-requires : tie.Need-cut-new-requires
-cut-new-requires c κs = search needs
+cut-new-requires c κs = start (c .before .before .before) .pre
 
 returns-4 : tie.Need-returns-4
 returns-4 c =

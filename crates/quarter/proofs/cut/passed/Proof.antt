@@ -19,7 +19,7 @@ mul-minus : tie.Need-mul-minus
 mul-minus c = let p = c .before .before .before .before .pre .0 in fit (mul-le-mul (add-le-add (p .l1-small) (p .l2-small)) (p .v-small)) tt
 
 minus-requires : tie.Need-minus-requires
-minus-requires c κs = search needs
+minus-requires c κs = tt
 
 returns : tie.Need-returns
 returns c = record { few = omega arith; is = λ rest. rw (c .minus .ensures) }

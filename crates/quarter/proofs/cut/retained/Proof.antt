@@ -5,7 +5,6 @@ use native.Mathlib.Omega.{arith}
 use native.Mathlib.Nat.{mul-le-mul, add-le-add, le-refl, one-le-mul}
 use mathlib.Core.Path.{sym, subst}
 use Prim.Native.Nat.{ℕ, _*_, _≤_}
-use borrow.Author.Needs.{needs}
 use Rattle.quarter.proofs.cut.retained.Statement.{statement}
 use Rattle.quarter.proofs.cut.retained.Tie as tie
 
@@ -29,7 +28,7 @@ divisor-some c =
     one-le-mul (s .pre .1 .0) (subst (λ (k : ℕ). 1 ≤ k) (sym (c .norm .ensures .0)) (norm-least (s .pre .0) (s .args .v) (s .pre .1 .0)))
 
 norm-requires : tie.Need-norm-requires
-norm-requires c κs = search needs
+norm-requires c κs = (c .pre .0, c .pre .1 .1 .0)
 
 mul-minus : tie.Need-mul-minus
 mul-minus c = let t = c .before .before .pre .0 in fit (mul-le-mul (t .p-high) (t .p-high)) tt
@@ -44,7 +43,7 @@ mul-minus-4 : tie.Need-mul-minus-4
 mul-minus-4 c = fit (mul-le-mul (c .before .before .pre .1 .1 .1 .1) (c .before .norm .ensures .1)) tt
 
 minus-requires : tie.Need-minus-requires
-minus-requires c κs = search needs
+minus-requires c κs = tt
 
 mul-min-u64 : tie.Need-mul-min-u64
 mul-min-u64 c = fit (twice c) tt
@@ -65,7 +64,7 @@ div-min-u64 : tie.Need-div-min-u64
 div-min-u64 c = omega (arith, divisor-some (c .before .before))
 
 min-u64-requires : tie.Need-min-u64-requires
-min-u64-requires c κs = search needs
+min-u64-requires c κs = tt
 
 returns : tie.Need-returns
 unfolding retained

@@ -7,7 +7,6 @@ use Rattle.setting.specs.declared.Setting.{Setting}
 use Rattle.quarter.specs.declared.Edge.{Edge}
 use Rattle.quarter.specs.Cutting.{State, act, passed, cut, put, on}
 use Rattle.quarter.specs.Held.{outcome}
-use borrow.Author.Needs.{needs}
 use Rattle.quarter.proofs.cut.step.Statement.{statement}
 use Rattle.quarter.proofs.cut.step.Tie as tie
 
@@ -21,7 +20,7 @@ module _ (σ : Setting) (x y : ℕ) (L R : Edge) (rest : List Edge) {n : State} 
   goes-on (suc d) e h = ap on (sym h)
 
 passed-requires : tie.Need-passed-requires
-passed-requires c κs = search needs
+passed-requires c κs = let room = c .before .pre .1 in (room .after, room .x-small)
 
 returns : tie.Need-returns
 returns c =
@@ -30,7 +29,7 @@ returns c =
     record { few = n .few; is = λ rest. goes-out (a .s) (a .t .x) (a .t .y) (a .t .before) (a .r) rest (a .d) (c .before .if1 .taken) (n .is rest) }
 
 cut-requires : tie.Need-cut-requires
-cut-requires c κs = search needs
+cut-requires c κs = c .before .pre
 
 returns-2 : tie.Need-returns-2
 returns-2 c =
