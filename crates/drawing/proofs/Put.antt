@@ -26,10 +26,10 @@ use Rattle.drawing.proofs.Over.{over-length}
 use Rattle.drawing.proofs.Rows.{put-whole}
 
 -- ---- the length of a film
-row-long : (d : Drawing) (columns rows j room k : ℕ) → length (rowUpTo d columns rows j room k) ≡ room
+row-long : (d : Drawing) (columns rows j width k : ℕ) → length (rowUpTo d columns rows j width k) ≡ width
 unfolding rowUpTo
-row-long d columns rows j room zero = length-replicate room 0
-row-long d columns rows j room (suc k) = over-length (rowUpTo d columns rows j room k) _ ∙ row-long d columns rows j room k
+row-long d columns rows j width zero = length-replicate width 0
+row-long d columns rows j width (suc k) = over-length (rowUpTo d columns rows j width k) _ ∙ row-long d columns rows j width k
 
 rows-long : (f : ℕ → List ℕ) (w : ℕ) → ((j : ℕ) → length (f j) ≡ w) → (n : ℕ) → length (topFirst n f) ≡ n * w
 unfolding topFirst
@@ -69,18 +69,13 @@ zeros (suc k) (suc n) h = ap (λ (l : List ℕ). 0 ∷ l) (zeros k n (omega arit
 
 -- ---- what is answered
 -- no more is counted than the buffer holds
-pub count-most : (d : Drawing) (columns rows : ℕ) (b : List ℕ) → filmPut d columns rows b .answer .count ≤ length b
-count-most d columns rows b = go (rasterVerdict columns rows)
+given-most : (v : Verdict) (f b : List ℕ) → given v (fileOffer f b) .answer .count ≤ length b
+given-most (Refused n place) f b = omega arith
+given-most Passed f b = go (leb (length f) (length b)) refl
   where
-    long : ℕ
-    long = length (film d columns rows)
+    go : (t : Bool) → leb (length f) (length b) ≡ t → settled (unless t room) (fileOffer f b) .answer .count ≤ length b
+    go true h = leb-true (length f) (length b) h
+    go false h = omega arith
 
-    room-most : (t : Bool) → leb long (length b) ≡ t → settled (unless t room) (fileOffer (film d columns rows) b) .answer .count ≤ length b
-    unfolding long
-    room-most true h = leb-true long (length b) h
-    room-most false h = omega arith
-
-    go : (v : Verdict) → given v (fileOffer (film d columns rows) b) .answer .count ≤ length b
-    unfolding long
-    go Passed = room-most (leb long (length b)) refl
-    go (Refused n place) = omega arith
+pub count-most : (d : Drawing) (columns rows : ℕ) (b : List ℕ) → filmPut d columns rows b .answer .count ≤ length b
+count-most d columns rows b = given-most (rasterVerdict columns rows) (film d columns rows) b

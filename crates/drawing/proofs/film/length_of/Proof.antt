@@ -1,33 +1,29 @@
--- The header's length, which also tells whether the sizes are within their limits.
-use Prim.Native.Nat.{ℕ, _*_, _≤_}
+-- The header is put whole into its few bytes, which counts it.
+use Prim.Native.Nat.{ℕ, _+_, _*_, _≤_}
 use native.Mathlib.Omega.{arith}
-use mathlib.Core.Path.{_≡_, refl, sym, ap}
-use mathlib.Core.Bool.{Bool, true, cond}
-use lib.ListN.{length, replicate}
-use Rattle.integers.proofs.Tests.{and-both}
-use Rattle.limits.specs.Sizes.{isSize}
-use Rattle.pbm.specs.Pbm.{header}
-use Rattle.drawing.specs.Film.{isRaster}
-use Rattle.drawing.proofs.Put.{filmLength, is-none, is-some, size-most, header-most, header-least, header-count, both, rows-most}
+use mathlib.Core.Path.{_≡_, ap, ap₂, _∙_}
+use lib.ListN.{length, replicate, length-replicate}
 use borrow.Author.Needs.{needs}
+use Rattle.limits.specs.Sizes.{rasterMax}
+use Rattle.pbm.specs.Pbm.{header, Put}
+use Rattle.drawing.proofs.Put.{header-most, rows-most, header-put-whole}
 use Rattle.drawing.proofs.film.length_of.Statement.{statement}
 use Rattle.drawing.proofs.film.length_of.Tie as tie
 
--- what the call answered
-answered : (c : tie.After-header2) → c .before .put-header .result ≡ cond (isRaster (c .before .before .before .args .columns) (c .before .before .before .args .rows)) (length (header (c .before .before .before .args .columns) (c .before .before .before .args .rows))) 0
-answered c = let a = c .before .before .before .args in header-count (a .columns) (a .rows) (replicate 15 0) refl (c .before .put-header .ensures)
+-- where the header has been put
+abbrev start : tie.After-put-header → tie.Start
+start c = c .before .before
 
-raster : (c : tie.Else1) → (isRaster (c .before .before .before .before .args .columns) (c .before .before .before .before .args .rows) ≡ true) × (c .before .before .put-header .result ≡ length (header (c .before .before .before .before .args .columns) (c .before .before .before .before .args .rows)))
-raster c = is-some _ _ _ (answered (c .before)) (c .if1 .left)
+counted : (c : tie.After-put-header) → let a = start c .args in c .put-header .result ≡ length (header (a .columns) (a .rows))
+counted c =
+    let s = start c in
+    ap (λ (r : Put). r .count) (c .put-header .ensures ∙ header-put-whole (s .pre) (replicate 15 0) (omega (arith, header-most (s .pre), length-replicate {A = ℕ} 15 0)))
 
-sizes : (c : tie.Else1) → (isSize (c .before .before .before .before .args .columns) ≡ true) × (isSize (c .before .before .before .before .args .rows) ≡ true)
-sizes c = and-both _ _ (raster c .0)
-
-few : (c : tie.After-row-length) → c .before .before .before .before .before .args .rows * c .row-length .result ≤ 33554432
+-- where the length of a row is known: the rows' bytes are few enough to be counted
+few : (c : tie.After-row-length) → let s = start (c .before .before) in s .args .rows * c .row-length .result ≤ rasterMax * 2048
 few c =
-    let a = c .before .before .before .before .before .args in
-    let s = sizes (c .before) in
-    omega (arith, ap (λ (n : ℕ). a .rows * n) (c .row-length .ensures), rows-most (a .columns) (a .rows) (size-most (a .columns) (s .0)) (size-most (a .rows) (s .1)))
+    let s = start (c .before .before) in
+    omega (arith, ap (λ (n : ℕ). s .args .rows * n) (c .row-length .ensures), rows-most (s .pre))
 
 slice-aggregate-put-header : tie.Need-slice-aggregate-put-header
 slice-aggregate-put-header c = search needs
@@ -35,28 +31,19 @@ slice-aggregate-put-header c = search needs
 put-header-requires : tie.Need-put-header-requires
 put-header-requires c κs = search needs
 
-returns : tie.Need-returns
-returns c =
-    let a = c .before .before .before .before .args in
-    sym (ap (λ (t : Bool). cond t (filmLength (a .columns) (a .rows)) 0) (is-none (isRaster (a .columns) (a .rows)) _ _ (header-least (a .columns) (a .rows)) (answered (c .before)) (c .if1 .taken)))
-
 row-length-requires : tie.Need-row-length-requires
-row-length-requires c κs = sizes c .0
+row-length-requires c κs = start (c .before) .pre .columns-size
 
 mul-result : tie.Need-mul-result
 mul-result c = omega (arith, few c)
 
 add-result : tie.Need-add-result
-add-result c =
-    let a = c .before .before .before .before .before .args in
-    let s = sizes (c .before) in
-    omega (arith, few c, raster (c .before) .1, header-most (a .columns) (a .rows) (s .0) (s .1))
+add-result c = let k = c .before .before in omega (arith, few c, counted k, header-most (start k .pre))
 
-returns-2 : tie.Need-returns-2
-returns-2 c =
-    let a = c .before .before .before .before .before .args in
-    let r = raster (c .before) in
-    both (isRaster (a .columns) (a .rows)) (a .rows) (r .0) (r .1) (c .row-length .ensures)
+returns : tie.Need-returns
+returns c =
+    let k = c .before .before in
+    ap₂ (λ (m n : ℕ). m + start k .args .rows * n) (counted k) (c .row-length .ensures)
 
 pub length-of-spec : {M : Type 1} → statement M
 length-of-spec =
@@ -64,8 +51,7 @@ length-of-spec =
     (tie.spec
     slice-aggregate-put-header
     put-header-requires
-    returns
     row-length-requires
     mul-result
     add-result
-    returns-2)
+    returns)

@@ -1,12 +1,11 @@
 -- A size is small.
 use native.Mathlib.Omega.{arith}
-use Rattle.drawing.proofs.Put.{size-most}
 use borrow.Author.Needs.{needs}
 use Rattle.drawing.proofs.film.row_length.Statement.{statement}
 use Rattle.drawing.proofs.film.row_length.Tie as tie
 
 add-result : tie.Need-add-result
-add-result c = omega (arith, size-most (c .args .columns) (c .pre))
+add-result c = omega (arith, c .pre .few)
 
 returns : tie.Need-returns
 returns c = search needs
