@@ -6,7 +6,7 @@ ghost use Rattle.setting.specs.Setting.{Taken};
 ghost use Rattle.quarter.specs.NearRoot.{norm, nearRoot, lower};
 ghost use Rattle.quarter.specs.Held.{Summed, halved};
 
-// p²v² + q²u²
+// p²v² + q²u²; with p and q at most 16 that is at most 2 * 16² * 64².
 pub fn norm(s: Setting, u: u64, v: u64) -> u64
     requires setting { ⌜ Taken s ⌝ }
     requires summed { ⌜ Summed u v ⌝ }
@@ -45,6 +45,7 @@ fn halved(s: Setting, square: u64, i: Interval) -> Interval
 }
 
 // The near root of (u, v), brought into low..high: the interval is halved until one value is left.
+// An edge's offset is at most 4096, so what is sought for two of them is at most 8192.
 pub fn near_root(s: Setting, u: u64, v: u64, low: u64, high: u64) -> u64
     requires setting { ⌜ Taken s ⌝ }
     requires summed { ⌜ Summed u v ⌝ }

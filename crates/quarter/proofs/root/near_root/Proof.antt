@@ -29,7 +29,7 @@ abbrev μ-loop : tie.MeasureT-loop
 abbrev start : tie.At-loop Inv-loop μ-loop → tie.Start Inv-loop μ-loop
 start c = c .before .before .before
 
--- the loop's test, and the interval that was tried, seen from the end of a round
+-- where the interval that was tried stood, seen from the end of a round
 abbrev tried : tie.After-halved Inv-loop μ-loop → tie.At-loop Inv-loop μ-loop
 tried c = c .before .before .before
 
