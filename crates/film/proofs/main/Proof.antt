@@ -36,8 +36,11 @@ put-film-requires c κs = search needs
 
 array-share-prefix-space : tie.Need-array-share-prefix-space
 array-share-prefix-space c =
-    let b = c .before .before .before .before .before .before .large-buffer in
-    let h : c .before .put-film .result .count ≤ length (b .result) = subst (λ (n : ℕ). n ≤ length (b .result)) (sym (ap (λ (r : Result). r .written .count) (c .before .put-film .ensures))) (search count-most) in
+    let film = c .before in
+    let given = film .before .before .before in
+    let b = given .before .before .large-buffer in
+    let e = ap (λ (r : Result). r .written .count) (film .put-film .ensures) in
+    let h : film .put-film .result .count ≤ length (b .result) = subst (λ (n : ℕ). n ≤ length (b .result)) (sym e) (search count-most) in
     omega (arith, h, b .ensures)
 
 slice-aggregate-write-all : tie.Need-slice-aggregate-write-all
