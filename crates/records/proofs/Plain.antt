@@ -91,12 +91,12 @@ module _ (rs : List stroke.Run) (o : List Run) (l₀ l : List ℕ) (a : Answer) 
       go true q =
           let h = leb-true (length rs) (length o) q in
           let fits : given Passed (runsOffer rs front) ≡ settled Passed (runsOffer rs front) =
-              rw (front-long, le-leb (length rs) (entries (length o) / 2) (entries-enough (length rs) (length o) few h)) in
+          rw (front-long, le-leb (length rs) (entries (length o) / 2) (entries-enough (length rs) (length o) few h)) in
           rw q (drawn-fills rs o l _ few h (ap (λ (r : Result ℕ). r .answer) (e ∙ fits)) (begins rs (entries (length o)) l _ (ap (λ (r : Result ℕ). r .list) (e ∙ fits))))
       go false q =
           let h = leb-false (length rs) (length o) q in
           let exceeds : given Passed (runsOffer rs front) ≡ settled (refuse room 0) (runsOffer rs front) =
-              rw (front-long, lt-leb (length rs) (entries (length o) / 2) (entries-short (length rs) (length o) few h)) in
+          rw (front-long, lt-leb (length rs) (entries (length o) / 2) (entries-short (length rs) (length o) few h)) in
           rw q (refused-fills 7 0 o l (ap (λ (r : Result ℕ). r .answer) (e ∙ exceeds)))
 
 -- what `flat_runs` promises is what `write` needs, whatever the checks answer

@@ -57,6 +57,7 @@ use Rattle.checks.proofs.Answer.Laws as Ans′
 use Rattle.records.specs.declared.Run.{Run}
 use Rattle.records.specs.Records.{entries, written, recordsCall}
 use Rattle.records.proofs.Plain.{Fills, fills}
+use Rattle.records.proofs.Walk.{says-both}
 use Rattle.records.proofs.Slot.{clears, room-again, big-lit}
 use Rattle.records.proofs.Run as T
 use Rattle.records.proofs.flat_runs as flat-runs
@@ -195,7 +196,7 @@ module _ {M : Type 1} (𝓤 : URA M) (H : Heap 𝓤) (A : Atoms 𝓤) (W : Given
         (Write 𝓤 H A mem run .pre (to-write p zs n ν δ))
     goes-write p zs n ν δ fits h k =
         qed W ((‵ (flft (ν ∷ []) fullShare) ⊛ (‵ (flft κ₁ q₁) ⊛ ‵ ftrue)) ∷ ‵ (ShrSlice (named 0) (ν ∷ []) u16 .own (at-list p δ zs) (sliceVal (p, 0) (length zs) ∷ [])) ∷ ‵ (MutSlice (named 1) κ₁ T.the-row .own x (sliceVal (b, o) (length ys) ∷ [])) ∷ []) ∵
-        says ! (h, k) $ frame ! $ nothing ! $ move ! (2 ∷ 0 ∷ []) $ fjoin ! $ owned ! usize (Is usize) (uint-makes 𝓤 H A W w64) n _ (refl, fits) $ fjoin ! $ move ! (1 ∷ 0 ∷ []) $ fjoin ! $ done !
+        says-both ! h k $ frame ! $ nothing ! $ move ! (2 ∷ 0 ∷ []) $ fjoin ! $ owned ! usize (Is usize) (uint-makes 𝓤 H A W w64) n _ (refl, fits) $ fjoin ! $ move ! (1 ∷ 0 ∷ []) $ fjoin ! $ done !
 
     module _ (C : Calls 𝓤 H) (Λ : Loops 𝓤 H) (fm : FmC 𝓤 H (W .laws) C) (known-flat : Triple 𝓤 (C #records·flat-runs) (FlatRuns 𝓤 H A mem run)) (known-write : Triple 𝓤 (C #records·write) (Write 𝓤 H A mem run)) where
       module _ (l₀ l₁ l₂ l₃ l₄ l₅ l₆ l₇ l₈ l₉ l₁₀ l₁₁ l₁₂ l₁₃ l₁₄ l₁₅ l₁₆ l₁₇ : ℕ) where
