@@ -20,7 +20,7 @@ use base.Fml.{Share, fat, froom, fdies}
 use prog.Wp.{Heap, Env, Calls, Loops, spotOf}
 use ghost.Atoms.{Atoms}
 use contract.Monad.{fact}
-use types.Kit.{Given, Item, ‵, Goal, prop, runs, frees, Post, Seq, Step, step, nth, put, _$_, suffices}
+use types.Kit.{Given, Item, ‵, Goal, prop, runs, frees, Post, Step, step, nth, put, _$_, suffices}
 use types.Run.{Opd, Rv, look, init, stop, from, load, assigns, free1, free0}
 use denote.Triple.Walked.{says, needs}
 

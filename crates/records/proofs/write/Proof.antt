@@ -381,10 +381,10 @@ module _ {M : Type 1} (𝓤 : URA M) (H : Heap 𝓤) (A : Atoms 𝓤) (W : Given
       𝓣 (are .0 .0 .1) (are .1 .1 .0 .0 .1) nl ny (are .1 .0 .1)))
 
   goes : AllGo 𝓤 H A W 2 (write.signature .params) (write.ended .kept) stayed
-  goes = (
-    goes-none-slice 𝓤 H A W 2 (0 ∷ []) tt (plain (λ _. u16)) yes,
-    (goes-none 𝓤 H A W 2 (λ _. usize) yes (λ κs x f. refl), (goes-slice 𝓤 H A W 2 1 tt (plain (λ _. T.the-row)), tt)),
-  )
+  goes =
+      let numbers-go = goes-none-slice 𝓤 H A W 2 (0 ∷ []) tt (plain (λ _. u16)) yes in
+      let count-goes = goes-none 𝓤 H A W 2 (λ _. usize) yes (λ κs x f. refl) in
+      (numbers-go, (count-goes, (goes-slice 𝓤 H A W 2 1 tt (plain (λ _. T.the-row)), tt)))
 
 write-meets : {M : Type 1} (𝓤 : URA M) (H : Heap 𝓤) (A : Atoms 𝓤) → Given 𝓤 H A → (at-mem : Memory → SProp 𝓤) (run : Routine → Fun 𝓤) (𝓣 : Tables 𝓤 H)
     → Meets 𝓤 H A write.signature (WpFn 𝓤 H (𝓣 .C) (𝓣 .Λ) code.function) (write.spec 𝓤 H A at-mem run)
