@@ -1,5 +1,5 @@
 -- The records written from the plain call's answer, over a list of its own, are those of the call over the numbers of the records themselves.
-use Prim.Native.Nat.{ℕ, _*_, _/_, _≤_, _<_}
+use Prim.Native.Nat.{ℕ, _*_, _/_, _≤_}
 use native.Mathlib.Omega.{arith}
 use mathlib.Core.Path.{_≡_, refl, sym, ap, subst, _∙_}
 use mathlib.Core.Bool.{Bool, true, false}
@@ -10,7 +10,7 @@ use lib.ListN.{length, take, drop, take-append-drop}
 use lib.Seq.{length-take-le}
 use lib.IntN.{ℤ}
 use Rattle.limits.specs.Sizes.{rasterMax}
-use Rattle.limits.specs.Refusal.{room, unless, refuse}
+use Rattle.limits.specs.Refusal.{room, refuse}
 use Rattle.limits.specs.declared.Verdict.{Verdict}
 use Rattle.limits.specs.declared.Verdict.the-variants.{Passed, Refused}
 use Rattle.stroke.specs.Runs as stroke

@@ -53,7 +53,8 @@ fn flat_runs(
 
 // The first records, of the numbers of a plain list; the records after them stay.
 fn write(plain: &[u16], count: usize, out: &mut [Run])
-    requires { ⌜ (2 * count ≤ length (now plain)) × (count ≤ length (now out)) ⌝ }
+    requires numbers { ⌜ 2 * count ≤ length (now plain) ⌝ }
+    requires records { ⌜ count ≤ length (now out) ⌝ }
     ensures { λ _. ⌜ now (out .exit) ≡ written count (now (plain .entry)) (now (out .entry)) ⌝ }
 {
     let mut i = 0;
