@@ -5,19 +5,20 @@ use mathlib.Core.Logic.{_↔_}
 use mathlib.Core.Bool.{Bool, true, false}
 use native.Mathlib.Omega.{arith}
 use Rattle.integers.proofs.Tests.{and-both}
-use Rattle.setting.proofs.Limits.{within-iff}
+use Rattle.limits.specs.Sizes.{apertureMin, apertureMax, places}
+use Rattle.limits.proofs.Sizes.{within-iff}
 use Rattle.aperture.specs.declared.Table.{Table}
 use Rattle.aperture.specs.Table.{isNumber, isHeld, placeOf}
 
-pub number-iff : (n : ℕ) → (isNumber n ≡ true) ↔ ((10 ≤ n) × (n ≤ 41))
-number-iff n = within-iff n 10 41
+pub number-iff : (n : ℕ) → (isNumber n ≡ true) ↔ ((apertureMin ≤ n) × (n ≤ apertureMax))
+number-iff n = within-iff n apertureMin apertureMax
 
 -- the index of a number's place is one of 32
-pub index-small : (n : ℕ) → isNumber n ≡ true → n - 10 < 32
+pub index-small : (n : ℕ) → isNumber n ≡ true → n - apertureMin < places
 index-small n e = let k = number-iff n .0 e in omega arith
 
 -- two numbers have two places
-pub index-other : (n m : ℕ) → isNumber n ≡ true → isNumber m ≡ true → ¬ (n ≡ m) → ¬ (m - 10 ≡ n - 10)
+pub index-other : (n m : ℕ) → isNumber n ≡ true → isNumber m ≡ true → ¬ (n ≡ m) → ¬ (m - apertureMin ≡ n - apertureMin)
 index-other n m e f h k = let a = number-iff n .0 e in let b = number-iff m .0 f in h (omega arith)
 
 -- the test of an aperture in use, taken apart and put together

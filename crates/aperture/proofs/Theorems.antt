@@ -10,14 +10,16 @@ use native.Mathlib.Omega.{arith}
 use lib.ListN.{length, getD, set, replicate, length-set, length-replicate}
 use lib.Seq.{getD-set-same, getD-set-other}
 use Rattle.setting.specs.declared.Setting.{Setting}
-use Rattle.setting.specs.Refusal.{Refusal, number, aperture, setting, inUse}
+use Rattle.limits.specs.Refusal.{Refusal, number, aperture, setting, inUse, refuse}
+use Rattle.limits.specs.Sizes.{apertureMin, places}
+use Rattle.limits.specs.declared.Verdict.the-variants.{Passed}
 use Rattle.setting.specs.Setting.{Taken, taken}
 use Rattle.setting.proofs.Limits.{taken-iff}
 use Rattle.aperture.specs.declared.Place.{Place}
 use Rattle.aperture.specs.declared.Table.{Table}
 use Rattle.aperture.specs.declared.Changed.{Changed}
 use Rattle.aperture.specs.declared.Looked.the-variants as looked·
-use Rattle.aperture.specs.Table.{vacant, holding, isNumber, isHeld, placeOf, withPlace, refused, done, defined, removed, looked}
+use Rattle.aperture.specs.Table.{vacant, holding, isNumber, isHeld, placeOf, withPlace, changed, defined, removed, looked}
 use Rattle.aperture.specs.Reachable.{Reachable, starts, defines, removes, Sound, nothing, some, ReachableSound, DefinedHolds, RemovedVacant, OthersKept, RefusalKeeps, RemovedAgain}
 use Rattle.aperture.proofs.Numbers.{index-small, index-other, held-parts}
 use Rattle.aperture.proofs.Answers.{not-number, not-taken, not-free, stores, not-held, empties, looks-nowhere, looks-at}
@@ -32,30 +34,30 @@ record Refuses (t : Table) (c : Changed) : Type 0 where
 record Defines (t : Table) (n : ℕ) (σ : Setting) : Type 0 where
   is-number : isNumber n ≡ true
   is-taken : taken σ ≡ true
-  gives : defined t n σ ≡ done (withPlace t n (holding σ))
+  gives : defined t n σ ≡ changed Passed (withPlace t n (holding σ)) t
 
 -- the aperture is in use, and its place becomes vacant
 record Removes (t : Table) (n : ℕ) : Type 0 where
   is-number : isNumber n ≡ true
-  gives : removed t n ≡ done (withPlace t n vacant)
+  gives : removed t n ≡ changed Passed (withPlace t n vacant) t
 
-refuses : {t : Table} {c : Changed} (r : Refusal) → ¬ (number r ≡ 0) → c ≡ refused r t → Refuses t c
-refuses r h e = record { says = λ z. h (sym (ap (λ (k : Changed). k .refusal) e) ∙ z); keeps = ap (λ (k : Changed). k .table) e }
+refuses : {t : Table} (u : Table) {c : Changed} (r : Refusal) → ¬ (number r ≡ 0) → c ≡ changed (refuse r 0) u t → Refuses t c
+refuses u r h e = record { says = λ z. h (sym (ap (λ (k : Changed). k .refusal) e) ∙ z); keeps = ap (λ (k : Changed). k .table) e }
 
 defined-case : (t : Table) (n : ℕ) (σ : Setting) → Refuses t (defined t n σ) ⊎ Defines t n σ
 defined-case t n σ = go (isNumber n) (taken σ) (placeOf t n .used) refl refl refl
   where
     go : (a b u : Bool) → isNumber n ≡ a → taken σ ≡ b → placeOf t n .used ≡ u → Refuses t (defined t n σ) ⊎ Defines t n σ
-    go false b u e f g = inl (refuses aperture (λ z. omega arith) (not-number t n σ e))
-    go true false u e f g = inl (refuses setting (λ z. omega arith) (not-taken t n σ e f))
-    go true true true e f g = inl (refuses inUse (λ z. omega arith) (not-free t n σ e f g))
+    go false b u e f g = inl (refuses (withPlace t n (holding σ)) aperture (λ z. omega arith) (not-number t n σ e))
+    go true false u e f g = inl (refuses (withPlace t n (holding σ)) setting (λ z. omega arith) (not-taken t n σ e f))
+    go true true true e f g = inl (refuses (withPlace t n (holding σ)) inUse (λ z. omega arith) (not-free t n σ e f g))
     go true true false e f g = inr record { is-number = e; is-taken = f; gives = stores t n σ e f g }
 
 removed-case : (t : Table) (n : ℕ) → Refuses t (removed t n) ⊎ Removes t n
 removed-case t n = go (isHeld t n) refl
   where
     go : (h : Bool) → isHeld t n ≡ h → Refuses t (removed t n) ⊎ Removes t n
-    go false e = inl (refuses aperture (λ z. omega arith) (not-held t n e))
+    go false e = inl (refuses (withPlace t n vacant) aperture (λ z. omega arith) (not-held t n e))
     go true e = inr record { is-number = held-parts t n e .0; gives = empties t n e }
 
 -- a call that says 0 has not refused
@@ -86,10 +88,10 @@ refusal-keeps t n σ = (
 
 -- ---- the places of a reachable table
 -- no call changes how many places there are, so that the place of every number is one of them
-pub reachable-long : {t : Table} → Reachable t → length (t .places) ≡ 32
-reachable-long starts = length-replicate 32 vacant
-reachable-long (defines {t} n σ r) = defined-either (λ u. length (u .places) ≡ 32) t n σ (reachable-long r) (λ d. length-set (t .places) (n - 10) (holding σ) ∙ reachable-long r)
-reachable-long (removes {t} n r) = removed-either (λ u. length (u .places) ≡ 32) t n (reachable-long r) (λ d. length-set (t .places) (n - 10) vacant ∙ reachable-long r)
+pub reachable-long : {t : Table} → Reachable t → length (t .places) ≡ places
+reachable-long starts = length-replicate places vacant
+reachable-long (defines {t} n σ r) = defined-either (λ u. length (u .places) ≡ places) t n σ (reachable-long r) (λ d. length-set (t .places) (n - apertureMin) (holding σ) ∙ reachable-long r)
+reachable-long (removes {t} n r) = removed-either (λ u. length (u .places) ≡ places) t n (reachable-long r) (λ d. length-set (t .places) (n - apertureMin) vacant ∙ reachable-long r)
 
 -- a list of one place only has that place everywhere, past its end too
 all-alike : (k i : ℕ) (p : Place) → getD (replicate k p) i p ≡ p
@@ -107,17 +109,17 @@ set-keeps P (x ∷ xs) (suc i) (suc j) p q = set-keeps P xs i j p q
 
 -- a stored place is vacant, or of a setting that passed the check; every other place was sound before
 sound : {t : Table} → Reachable t → (m : ℕ) → Sound (placeOf t m)
-sound starts m = subst Sound (sym (all-alike 32 (m - 10) vacant)) nothing
+sound starts m = subst Sound (sym (all-alike places (m - apertureMin) vacant)) nothing
 sound (defines {t} n σ r) m =
-    defined-either (λ u. Sound (placeOf u m)) t n σ (sound r m) (λ d. set-keeps Sound (t .places) (n - 10) (m - 10) (some (taken-iff σ .0 (d .is-taken))) (sound r m))
-sound (removes {t} n r) m = removed-either (λ u. Sound (placeOf u m)) t n (sound r m) (λ d. set-keeps Sound (t .places) (n - 10) (m - 10) nothing (sound r m))
+    defined-either (λ u. Sound (placeOf u m)) t n σ (sound r m) (λ d. set-keeps Sound (t .places) (n - apertureMin) (m - apertureMin) (some (taken-iff σ .0 (d .is-taken))) (sound r m))
+sound (removes {t} n r) m = removed-either (λ u. Sound (placeOf u m)) t n (sound r m) (λ d. set-keeps Sound (t .places) (n - apertureMin) (m - apertureMin) nothing (sound r m))
 
 pub reachable-sound : ReachableSound
 reachable-sound t r m = sound r m
 
 -- ---- what a call does to its own place, and to the others
 own-place : {t : Table} → Reachable t → (n : ℕ) (p : Place) → isNumber n ≡ true → placeOf (withPlace t n p) n ≡ p
-own-place {t} r n p e = getD-set-same (t .places) (n - 10) p vacant (subst (λ (k : ℕ). n - 10 < k) (sym (reachable-long r)) (index-small n e))
+own-place {t} r n p e = getD-set-same (t .places) (n - apertureMin) p vacant (subst (λ (k : ℕ). n - apertureMin < k) (sym (reachable-long r)) (index-small n e))
 
 pub defined-holds : DefinedHolds
 defined-holds t r n σ z = let d = defined-done t n σ z in ap (λ (u : Table). placeOf u n) (defined-table d) ∙ own-place r n (holding σ) (d .is-number)
@@ -127,7 +129,7 @@ removed-vacant t r n z = let d = removed-done t n z in ap (λ (u : Table). place
 
 pub others-kept : OthersKept
 others-kept t n m σ e f h =
-    let other : (p : Place) → placeOf (withPlace t n p) m ≡ placeOf t m = λ p. getD-set-other (t .places) (n - 10) (m - 10) p vacant (index-other n m e f h) in (
+    let other : (p : Place) → placeOf (withPlace t n p) m ≡ placeOf t m = λ p. getD-set-other (t .places) (n - apertureMin) (m - apertureMin) p vacant (index-other n m e f h) in (
       defined-either (λ u. placeOf u m ≡ placeOf t m) t n σ refl (λ d. other (holding σ)),
       removed-either (λ u. placeOf u m ≡ placeOf t m) t n refl (λ d. other vacant),
     )
@@ -143,22 +145,22 @@ used-holds : {p : Place} → Sound p → p .used ≡ true → (σ : Setting) × 
 used-holds nothing e = absurd (let z : _≡_ {A = ℕ} 0 1 = cc in omega arith)
 used-holds (some {σ} k) e = (σ, k, refl)
 
-looked-case : (t : Table) (n : ℕ) → ((isHeld t n ≡ false) × (looked t n ≡ looked·.Refused)) ⊎ ((isHeld t n ≡ true) × (looked t n ≡ looked·.At (n - 10)))
+looked-case : (t : Table) (n : ℕ) → ((isHeld t n ≡ false) × (looked t n ≡ looked·.Refused)) ⊎ ((isHeld t n ≡ true) × (looked t n ≡ looked·.At (n - apertureMin)))
 looked-case t n = go (isHeld t n) refl
   where
-    go : (h : Bool) → isHeld t n ≡ h → ((isHeld t n ≡ false) × (looked t n ≡ looked·.Refused)) ⊎ ((isHeld t n ≡ true) × (looked t n ≡ looked·.At (n - 10)))
+    go : (h : Bool) → isHeld t n ≡ h → ((isHeld t n ≡ false) × (looked t n ≡ looked·.Refused)) ⊎ ((isHeld t n ≡ true) × (looked t n ≡ looked·.At (n - apertureMin)))
     go false e = inl (e, looks-nowhere t n e)
     go true e = inr (e, looks-at t n e)
 
 -- what was answered says which of the two it was
-looked-held : (t : Table) (n i : ℕ) → looked t n ≡ looked·.At i → (isHeld t n ≡ true) × (n - 10 ≡ i)
+pub looked-held : (t : Table) (n i : ℕ) → looked t n ≡ looked·.At i → (isHeld t n ≡ true) × (n - apertureMin ≡ i)
 looked-held t n i e = elim (looked-case t n) [ inl k ↦ absurd (let z : _≡_ {A = ℕ} 0 1 = cc in omega arith) | inr k ↦ (k .0, cc) ]
 
 -- the place is one of the table's, whatever the table holds
-pub looked-small : (t : Table) (n i : ℕ) → looked t n ≡ looked·.At i → i < 32
-looked-small t n i e = let h = looked-held t n i e in subst (λ (j : ℕ). j < 32) (h .1) (index-small n (held-parts t n (h .0) .0))
+pub looked-small : (t : Table) (n i : ℕ) → looked t n ≡ looked·.At i → i < places
+looked-small t n i e = let h = looked-held t n i e in subst (λ (j : ℕ). j < places) (h .1) (index-small n (held-parts t n (h .0) .0))
 
-pub looked-place : (t : Table) → Reachable t → (n i : ℕ) → looked t n ≡ looked·.At i → (σ : Setting) × Taken σ × (getD (t .places) i vacant ≡ holding σ) × (i < 32)
+pub looked-place : (t : Table) → Reachable t → (n i : ℕ) → looked t n ≡ looked·.At i → (σ : Setting) × Taken σ × (getD (t .places) i vacant ≡ holding σ) × (i < places)
 looked-place t r n i e =
     let h = looked-held t n i e in
     let b = held-parts t n (h .0) in

@@ -18,7 +18,7 @@ pub struct Place {
 }
 
 pub struct Table {
-    pub places: [Place; 32],
+    pub places: [Place; limits::PLACES],
 }
 
 // Document 01's refusal number, and the table, which is unchanged on a refusal.
@@ -39,7 +39,7 @@ pub fn none() -> Table
 {
     let place = vacant();
     Table {
-        places: [place; 32],
+        places: [place; limits::PLACES],
     }
 }
 
@@ -49,25 +49,25 @@ pub fn define(t: Table, number: u64, w: u64, p: u64, q: u64) -> Changed
 {
     if !is_number(number) {
         return Changed {
-            refusal: 6,
+            refusal: limits::NO_APERTURE,
             table: t,
         };
     }
     let Checked::Taken(s) = setting::check(w, p, q) else {
         return Changed {
-            refusal: 1,
+            refusal: limits::BAD_SETTING,
             table: t,
         };
     };
     if is_used(t, number) {
         return Changed {
-            refusal: 8,
+            refusal: limits::IN_USE,
             table: t,
         };
     }
     let place = holding(s);
     Changed {
-        refusal: 0,
+        refusal: limits::DONE,
         table: with_place(t, number, place),
     }
 }
@@ -78,13 +78,13 @@ pub fn remove(t: Table, number: u64) -> Changed
 {
     if !is_held(t, number) {
         return Changed {
-            refusal: 6,
+            refusal: limits::NO_APERTURE,
             table: t,
         };
     }
     let place = vacant();
     Changed {
-        refusal: 0,
+        refusal: limits::DONE,
         table: with_place(t, number, place),
     }
 }
@@ -96,14 +96,14 @@ pub fn look_up(t: Table, number: u64) -> Looked
     if !is_held(t, number) {
         return Looked::Refused;
     }
-    let found = (number - 10) as usize;
+    let found = (number - limits::APERTURE_MIN) as usize;
     Looked::At(found)
 }
 
 fn is_number(number: u64) -> bool
     ensures { λ r. ⌜ r ≡ isNumber number ⌝ }
 {
-    10 <= number && number <= 41
+    limits::within(number, limits::APERTURE_MIN, limits::APERTURE_MAX)
 }
 
 // Whether the place of a number is in use, whatever it holds.
@@ -111,7 +111,7 @@ fn is_used(t: Table, number: u64) -> bool
     requires { ⌜ isNumber number ≡ true ⌝ }
     ensures { λ r. ⌜ r ≡ placeOf t number .used ⌝ }
 {
-    let i = (number - 10) as usize;
+    let i = (number - limits::APERTURE_MIN) as usize;
     let place = t.places[i];
     place.used
 }
@@ -131,7 +131,7 @@ fn with_place(t: Table, number: u64, place: Place) -> Table
     requires { ⌜ isNumber number ≡ true ⌝ }
     ensures { λ r. ⌜ r ≡ withPlace t number place ⌝ }
 {
-    let at = (number - 10) as usize;
+    let at = (number - limits::APERTURE_MIN) as usize;
     let mut next = t;
     next.places[at] = place;
     next
@@ -146,8 +146,8 @@ fn vacant() -> Place
         setting: Setting { w: 0, p: 0, q: 0 },
         pen: Pen {
             count: 0,
-            x: [0; 132],
-            y: [0; 132],
+            x: [0; limits::PEN_MAX],
+            y: [0; limits::PEN_MAX],
         },
     }
 }

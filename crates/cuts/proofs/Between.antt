@@ -1,5 +1,5 @@
 -- The bounds of the cuts in an array: each cut more keeps them, and no column outside them is black.
-use mathlib.Core.Path.{_≡_, refl, ap₂, _∙_, subst}
+use mathlib.Core.Path.{_≡_, refl, ap₂, _∙_}
 use mathlib.Core.Bool.{Bool, true, false, cond}
 use mathlib.Core.List.{List, [], _∷_, List·Memᴰ·head as head, List·Memᴰ·tail as tail}
 use Prim.Native.Nat.{ℕ, zero, suc, _+_, min, max, _≤_, _<_}
@@ -10,12 +10,11 @@ use borrow.Author.Tests.{ltb-false, lt-ltb, le-ltb}
 use lib.Dec.{ltb}
 use lib.ListN.{length, getD, set, drop, replicate, length-replicate, getD-replicate, List·getD-eq-default}
 use lib.Seq.{getD-set-other, drop-cons}
-use Rattle.cuts.specs.Cuts.{farther, farOf, wider, boundsOf, Bounded, reachTo, blackFar}
+use Rattle.cuts.specs.Cuts.{Below, farther, farOf, wider, boundsOf, Bounded, reachTo, blackFar}
 use Rattle.cuts.specs.declared.cut.Cut.{Cut}
 use Rattle.cuts.specs.declared.cut.Cut.the-variants as cut·
 use Rattle.cuts.specs.declared.Bounds.{Bounds}
 use Rattle.integers.specs.Count.{_∈_}
-use Rattle.cuts.proofs.Raster.{InRaster}
 use Rattle.cuts.proofs.Marked.{set-low}
 
 -- ---- cut by cut
@@ -44,14 +43,14 @@ clear-all : {far : List ℕ} {first end : ℕ} → Bounded far first end → end
 clear-all b h x = omega (arith, b .none-past x)
 
 -- one cut more, whose columns lie in the raster: the bounds hold it too, and they end in the raster
-module _ (far : List ℕ) (b : Bounds) (wide : ℕ) (h : Bounded far (b .first) (b .end)) (k : b .end ≤ wide) where
-  bounded-wider : (c : Cut) → ((l r : ℕ) → c ≡ cut·.Columns l r → (l ≤ r) × (r < wide)) → Bounded (farther far c) (wider b c .first) (wider b c .end) × (wider b c .end ≤ wide)
+module _ (far : List ℕ) (b : Bounds) (columns : ℕ) (h : Bounded far (b .first) (b .end)) (k : b .end ≤ columns) where
+  bounded-wider : (c : Cut) → Below columns c → Bounded (farther far c) (wider b c .first) (wider b c .end) × (wider b c .end ≤ columns)
   bounded-wider cut·.Nothing w = (h, k)
   bounded-wider (cut·.Columns l r) w = go (ltb 0 (b .end)) refl
     where
       go : (t : Bool) → ltb 0 (b .end) ≡ t →
           let m : Bounds = cond t (record { first = min (b .first) l; end = max (b .end) (suc r) }) (record { first = l; end = suc r }) in
-          Bounded (farther far (cut·.Columns l r)) (m .first) (m .end) × (m .end ≤ wide)
+          Bounded (farther far (cut·.Columns l r)) (m .first) (m .end) × (m .end ≤ columns)
       go true e =
           let m = bounded-marked l (suc r) (min (b .first) l) (max (b .end) (suc r)) h (omega (arith, w l r refl)) (omega arith) (omega arith) (omega arith) (λ x q. h .clear-before x (omega arith)) in
           (m, omega (arith, w l r refl))
@@ -59,18 +58,18 @@ module _ (far : List ℕ) (b : Bounds) (wide : ℕ) (h : Bounded far (b .first) 
           let z = ltb-false 0 (b .end) e in
           (bounded-marked l (suc r) l (suc r) h (omega (arith, w l r refl)) (omega arith) (omega arith) (omega arith) (λ x q. clear-all h z x), omega (arith, w l r refl))
 
-  pub bounded-next : (c : Cut) {far′ : List ℕ} {b′ : Bounds} → ((l r : ℕ) → c ≡ cut·.Columns l r → (l ≤ r) × (r < wide)) → far′ ≡ farther far c → b′ ≡ wider b c →
-      Bounded far′ (b′ .first) (b′ .end) × (b′ .end ≤ wide)
+  pub bounded-next : (c : Cut) {far′ : List ℕ} {b′ : Bounds} → Below columns c → far′ ≡ farther far c → b′ ≡ wider b c →
+      Bounded far′ (b′ .first) (b′ .end) × (b′ .end ≤ columns)
   bounded-next c w e f = rw (e, f) (bounded-wider c w)
 
 -- all cuts of a list that lie in the raster
-pub bounded-all : (cs : List Cut) (far : List ℕ) (b : Bounds) (wide : ℕ) → Bounded far (b .first) (b .end) → b .end ≤ wide → ((c : Cut) → c ∈ cs → InRaster wide c) →
-    Bounded (farOf cs far) (boundsOf cs b .first) (boundsOf cs b .end) × (boundsOf cs b .end ≤ wide)
+pub bounded-all : (cs : List Cut) (far : List ℕ) (b : Bounds) (columns : ℕ) → Bounded far (b .first) (b .end) → b .end ≤ columns → ((c : Cut) → c ∈ cs → Below columns c) →
+    Bounded (farOf cs far) (boundsOf cs b .first) (boundsOf cs b .end) × (boundsOf cs b .end ≤ columns)
 unfolding farOf boundsOf
-bounded-all [] far b wide h k i = (h, k)
-bounded-all (c ∷ cs) far b wide h k i =
-    let m = bounded-next far b wide h k c (λ l r e. subst (InRaster wide) e (i c (head refl))) refl refl in
-    bounded-all cs (farther far c) (wider b c) wide (m .0) (m .1) (λ c q. i c (tail q))
+bounded-all [] far b columns h k i = (h, k)
+bounded-all (c ∷ cs) far b columns h k i =
+    let m = bounded-next far b columns h k c (i c (head refl)) refl refl in
+    bounded-all cs (farther far c) (wider b c) columns (m .0) (m .1) (λ c q. i c (tail q))
 
 -- ---- one cut after the other, for a loop
 pub bounds-step : (l : List Cut) (k : ℕ) (b : Bounds) → k < length l → boundsOf (drop k l) b ≡ boundsOf (drop (suc k) l) (wider b (getD l k cut·.Nothing))

@@ -7,16 +7,12 @@ use native.Mathlib.Omega.{arith}
 use native.Mathlib.Decide.{decLe}
 use borrow.Author.Tests.{ltb-true, ltb-false, lt-ltb, le-ltb, le-leb, lt-leb}
 use lib.Dec.{leb, ltb, leb·suc-suc}
-use lib.ListN.{length, getD, set, drop, replicate, length-set, length-replicate, getD-replicate, List·getD-eq-default}
+use lib.ListN.{length, getD, set, drop, replicate, length-set, length-replicate, getD-replicate}
 use lib.Seq.{getD-set-same, getD-set-other, drop-cons}
 use Rattle.integers.specs.Count.{_∈_}
-use Rattle.cuts.specs.Cuts.{inCut, blackCut, farther, farOf, reachTo, blackFar}
+use Rattle.cuts.specs.Cuts.{Below, inCut, blackCut, farther, farOf, reachTo, blackFar}
 use Rattle.cuts.specs.declared.cut.Cut.{Cut}
 use Rattle.cuts.specs.declared.cut.Cut.the-variants as cut·
-
--- each cut that has columns lies within columns 0 .. n - 1
-abbrev pub Within : ℕ → List Cut → Type 0
-Within n cs = (l r : ℕ) → cut·.Columns l r ∈ cs → (l ≤ r) × (r < n)
 
 -- ---- one cut more, at column l: what starts before it goes as far as it went, and from there on the row goes at least as far as the cut
 module _ (far : List ℕ) (l v : ℕ) (h : l < length far) where
@@ -87,18 +83,12 @@ reach-zero n zero h = getD-replicate n 0 0 0 h
 reach-zero n (suc x) h = ap₂ max (reach-zero n x (omega arith)) (getD-replicate n (suc x) 0 0 h)
 
 -- so the black columns are those of the cuts
-pub black-far : (cs : List Cut) (n x : ℕ) → Within n cs → x < n → blackFar (farOf cs (replicate n 0)) x ≡ blackCut cs x
+pub black-far : (cs : List Cut) (n x : ℕ) → ((c : Cut) → c ∈ cs → Below n c) → x < n → blackFar (farOf cs (replicate n 0)) x ≡ blackCut cs x
 black-far cs n x h k =
-    black-all cs (replicate n 0) x (λ l r m. omega (arith, h l r m, length-replicate {A = ℕ} n 0))
+    black-all cs (replicate n 0) x (λ l r m. omega (arith, h (cut·.Columns l r) m l r refl, length-replicate {A = ℕ} n 0))
     ∙ ap (λ (y : ℕ). blackCut cs x || ltb x y) (reach-zero n x k) ∙ ap (λ (t : Bool). blackCut cs x || t) (le-ltb x 0 (omega arith)) ∙ or-false (blackCut cs x)
 
--- ---- its length and its entries
-pub far-length : (cs : List Cut) (far : List ℕ) → length (farOf cs far) ≡ length far
-unfolding farOf
-far-length [] far = refl
-far-length (cut·.Nothing ∷ cs) far = far-length cs far
-far-length (cut·.Columns l r ∷ cs) far = far-length cs (farther far (cut·.Columns l r)) ∙ length-set far l (max (getD far l 0) (suc r))
-
+-- ---- its entries
 -- a store of a number up to n keeps a list whose entries all are up to n
 pub set-low : (far : List ℕ) (l v n : ℕ) → v ≤ n → ((i : ℕ) → getD far i 0 ≤ n) → (i : ℕ) → getD (set far l v) i 0 ≤ n
 set-low [] l v n h k i = k i
@@ -106,20 +96,6 @@ set-low (a ∷ far) zero v n h k zero = h
 set-low (a ∷ far) zero v n h k (suc i) = k (suc i)
 set-low (a ∷ far) (suc l) v n h k zero = k 0
 set-low (a ∷ far) (suc l) v n h k (suc i) = set-low far l v n h (λ j. k (suc j)) i
-
-far-low : (cs : List Cut) (far : List ℕ) (n : ℕ) → Within n cs → ((i : ℕ) → getD far i 0 ≤ n) → (i : ℕ) → getD (farOf cs far) i 0 ≤ n
-unfolding farOf
-far-low [] far n h k = k
-far-low (cut·.Nothing ∷ cs) far n h k = far-low cs far n (λ l r m. h l r (tail m)) k
-far-low (cut·.Columns l r ∷ cs) far n h k =
-    far-low cs (farther far (cut·.Columns l r)) n (λ l r m. h l r (tail m)) (set-low far l (max (getD far l 0) (suc r)) n (omega (arith, k l, h l r (head refl))) k)
-
--- no entry lies past the end, so sixteen bits hold each
-pub far-most : (cs : List Cut) (n : ℕ) → Within n cs → (i : ℕ) → getD (farOf cs (replicate n 0)) i 0 ≤ n
-far-most cs n h = far-low cs (replicate n 0) n h (λ i. elim (decLe n i) [
-  | yes m ↦ omega (arith, List·getD-eq-default {A = ℕ} (replicate n 0) 0 {n = i} (omega (arith, length-replicate {A = ℕ} n 0)))
-  | no m ↦ omega (arith, getD-replicate {A = ℕ} n i 0 0 (omega arith))
-])
 
 -- ---- one cut after the other, for a loop
 pub far-step : (l : List Cut) (k : ℕ) (far : List ℕ) → k < length l → farOf (drop k l) far ≡ farOf (drop (suc k) l) (farther far (getD l k cut·.Nothing))

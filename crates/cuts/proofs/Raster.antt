@@ -15,18 +15,17 @@ use Rattle.integers.specs.Orders.{_≼_}
 use Rattle.integers.specs.Compare.{minZ, maxZ}
 use Rattle.integers.specs.Count.{_∈_}
 use Rattle.integers.proofs.Order.{le-trans}
-use Rattle.integers.proofs.Tests.{clash, and-false, and-both, le-true, le-iff, max-l, max-r, max-le, min-l, min-r, le-min}
+use Rattle.integers.proofs.Tests.{clash, and-false, and-both, le-true, le-iff, max-l, max-r, max-le, min-l, min-r, le-min, same-test}
 use Rattle.plane.specs.Point.{Pt}
 use Rattle.stroke.specs.Sweep.{Seg, segments}
-use Rattle.stroke.specs.Extent.{Span, none, columns, extent}
+use Rattle.stroke.specs.Extent.{Span, none, columns as from-to, extent}
 use Rattle.extent.specs.Answer.{allowed, answered, extentOf}
 use Rattle.extent.specs.declared.Extent.{Extent}
 use Rattle.extent.specs.declared.Extent.the-variants as extent·
 use Rattle.stroke.specs.Runs.{inSpan, any, blackAt}
 use Rattle.cuts.specs.declared.cut.Cut.{Cut}
 use Rattle.cuts.specs.declared.cut.Cut.the-variants as cut·
-use Rattle.cuts.specs.Cuts.{cutTo, extentIn, cuts, inCut, blackCut}
-use Rattle.integers.proofs.Tests.{same-test}
+use Rattle.cuts.specs.Cuts.{cutTo, extentIn, cuts, Below, inCut, blackCut}
 
 -- ---- the raster's last column
 last-column : (n : ℕ) → pos (suc n) -ℤ pos 1 ≡ pos n
@@ -54,55 +53,59 @@ right-limit last e x h =
     same-test _ _ (λ q. le-iff _ _ .1 (le-min last e (pos x) (le-true q) h))
     (λ q. le-iff _ _ .1 (le-trans (pos x) (minZ last e) last (le-true q) (min-l last e)))
 
-below-last : (x wide : ℕ) → x < wide → pos x ≼ pos wide -ℤ pos 1
+below-last : (x columns : ℕ) → x < columns → pos x ≼ pos columns -ℤ pos 1
 below-last x zero h = absurd (omega arith)
 below-last x (suc n) h = rw last-column (le-iff (pos x) (pos n) .0 (le-leb x n (omega arith)))
 
 -- the columns of the raster that a span has are those that its cut has
-in-cut : (s : Span) (x wide : ℕ) → x < wide → inSpan s (pos x) ≡ inCut x (cutTo wide (answered s))
-in-cut none x wide h = refl
-in-cut (columns first last) x wide h =
-    ap₂ _&&_ (left-limit first x) (right-limit last (pos wide -ℤ pos 1) x (below-last x wide h))
-    ∙ cond-cut (maxZ first (pos 0)) (minZ last (pos wide -ℤ pos 1)) x (max-r first (pos 0))
+in-cut : (s : Span) (x columns : ℕ) → x < columns → inSpan s (pos x) ≡ inCut x (cutTo columns (answered s))
+in-cut none x columns h = refl
+in-cut (from-to first last) x columns h =
+    ap₂ _&&_ (left-limit first x) (right-limit last (pos columns -ℤ pos 1) x (below-last x columns h))
+    ∙ cond-cut (maxZ first (pos 0)) (minZ last (pos columns -ℤ pos 1)) x (max-r first (pos 0))
 
 -- ---- within the raster
-abbrev pub InRaster : ℕ → Cut → Type 0
-InRaster wide cut·.Nothing = Unit
-InRaster wide (cut·.Columns l r) = (l ≤ r) × (r < wide)
+-- `Below columns`, by cases
+abbrev InRaster : ℕ → Cut → Type 0
+InRaster columns cut·.Nothing = Unit
+InRaster columns (cut·.Columns l r) = (l ≤ r) × (r < columns)
 
-ordered : (wide : ℕ) (a b : ℤ) → pos 0 ≼ a → a ≼ b → b ≼ pos wide -ℤ pos 1 → (natAbs a ≤ natAbs b) × (natAbs b < wide)
-ordered wide (negsuc m) b h k l = absurd (h .le)
-ordered wide (pos m) (negsuc n) h k l = absurd (k .le)
+ordered : (columns : ℕ) (a b : ℤ) → pos 0 ≼ a → a ≼ b → b ≼ pos columns -ℤ pos 1 → (natAbs a ≤ natAbs b) × (natAbs b < columns)
+ordered columns (negsuc m) b h k l = absurd (h .le)
+ordered columns (pos m) (negsuc n) h k l = absurd (k .le)
 ordered zero (pos m) (pos n) h k l = absurd (l .le)
 ordered (suc w) (pos m) (pos n) h k l = (leb-true m n (le-iff (pos m) (pos n) .1 k), omega (arith, leb-true n w (le-iff (pos n) (pos w) .1 (rw last-column at l))))
 
-pub cut-in : (wide : ℕ) (s : Extent) → InRaster wide (cutTo wide s)
-cut-in wide extent·.Nothing = tt
-cut-in wide (extent·.Columns first last) = go (leZ a b) refl
+cut-in : (columns : ℕ) (s : Extent) → InRaster columns (cutTo columns s)
+cut-in columns extent·.Nothing = tt
+cut-in columns (extent·.Columns first last) = go (leZ a b) refl
   where
     a : ℤ
     a = maxZ first (pos 0)
 
     b : ℤ
-    b = minZ last (pos wide -ℤ pos 1)
+    b = minZ last (pos columns -ℤ pos 1)
 
-    go : (t : Bool) → leZ a b ≡ t → InRaster wide (cond t (cut·.Columns (natAbs a) (natAbs b)) cut·.Nothing)
-    go true e = ordered wide a b (max-r first (pos 0)) (le-true e) (min-r last (pos wide -ℤ pos 1))
+    go : (t : Bool) → leZ a b ≡ t → InRaster columns (cond t (cut·.Columns (natAbs a) (natAbs b)) cut·.Nothing)
+    go true e = ordered columns a b (max-r first (pos 0)) (le-true e) (min-r last (pos columns -ℤ pos 1))
     go false e = tt
 
-pub cut-bounds : {wide : ℕ} (s : Extent) {c : Cut} → c ≡ cutTo wide s → (l r : ℕ) → c ≡ cut·.Columns l r → (l ≤ r) × (r < wide)
-cut-bounds {wide} s e l r f = subst (InRaster wide) (sym e ∙ f) (cut-in wide s)
+pub cut-below : {columns : ℕ} (s : Extent) {c : Cut} → c ≡ cutTo columns s → Below columns c
+cut-below {columns} s e l r f = subst (InRaster columns) (sym e ∙ f) (cut-in columns s)
+
+pub below-more : {n m : ℕ} {c : Cut} → n ≤ m → Below n c → Below m c
+below-more h b l r e = let p = b l r e in (p .0, omega arith)
 
 -- ---- all cuts of a path
-all-in : (wide : ℕ) (f : Seg → Extent) (l : List Seg) (c : Cut) → c ∈ map (λ g. cutTo wide (f g)) l → InRaster wide c
-all-in wide f [] c m = absurd (not-nil m)
-all-in wide f (g ∷ l) c m = elim (cases m) [ inl e ↦ rw e (cut-in wide (f g)) | inr i ↦ all-in wide f l c i ]
+all-below : (columns : ℕ) (f : Seg → Extent) (l : List Seg) (c : Cut) → c ∈ map (λ g. cutTo columns (f g)) l → Below columns c
+all-below columns f [] c m = absurd (not-nil m)
+all-below columns f (g ∷ l) c m = elim (cases m) [ inl e ↦ cut-below (f g) e | inr i ↦ all-below columns f l c i ]
 
-pub cuts-in : (cs path : List Pt) (wide j : ℕ) (c : Cut) → c ∈ cuts cs path wide j → InRaster wide c
-cuts-in cs path wide j = all-in wide (extentIn cs j) (segments path)
+pub cuts-below : (cs path : List Pt) (columns j : ℕ) (c : Cut) → c ∈ cuts cs path columns j → Below columns c
+cuts-below cs path columns j = all-below columns (extentIn cs j) (segments path)
 
-pub cuts-long : (cs path : List Pt) (wide j : ℕ) → length (cuts cs path wide j) ≡ length (segments path)
-cuts-long cs path wide j = length-map (segments path) (λ g. cutTo wide (extentIn cs j g))
+pub cuts-long : (cs path : List Pt) (columns j : ℕ) → length (cuts cs path columns j) ≡ length (segments path)
+cuts-long cs path columns j = length-map (segments path) (λ g. cutTo columns (extentIn cs j g))
 
 -- the cut of segment k
 map-at : {A B : Type 0} (f : A → B) (l : List A) (k : ℕ) (d : A) (e : B) → k < length l → getD (map f l) k e ≡ f (getD l k d)
@@ -110,9 +113,9 @@ map-at f [] k d e h = absurd (omega arith)
 map-at f (a ∷ l) zero d e h = refl
 map-at f (a ∷ l) (suc k) d e h = map-at f l k d e (omega arith)
 
-pub cut-place : (cs path : List Pt) (wide j k : ℕ) (g : Seg) → k < length (segments path) →
-    getD (cuts cs path wide j) k cut·.Nothing ≡ cutTo wide (extentIn cs j (getD (segments path) k g))
-cut-place cs path wide j k g h = map-at (λ g. cutTo wide (extentIn cs j g)) (segments path) k g cut·.Nothing h
+pub cut-place : (cs path : List Pt) (columns j k : ℕ) (g : Seg) → k < length (segments path) →
+    getD (cuts cs path columns j) k cut·.Nothing ≡ cutTo columns (extentIn cs j (getD (segments path) k g))
+cut-place cs path columns j k g h = map-at (λ g. cutTo columns (extentIn cs j g)) (segments path) k g cut·.Nothing h
 
 -- ---- segments within document 01's limits
 abbrev pub Near : List Seg → ℕ → Type 0
@@ -123,13 +126,13 @@ near-extent : (cs : List Pt) (g : Seg) (j : ℕ) → allowed (g .from .x) (g .fr
 unfolding extentOf
 near-extent cs g j e = rw (extentOf, e)
 
-any-cut : (cs : List Pt) (x wide j : ℕ) → x < wide → (l : List Seg) → Near l j →
-    any (λ g. inSpan (extent cs g (pos j)) (pos x)) l ≡ any (inCut x) (map (λ g. cutTo wide (extentIn cs j g)) l)
-any-cut cs x wide j h [] n = refl
-any-cut cs x wide j h (g ∷ l) n =
-    ap₂ _||_ (in-cut (extent cs g (pos j)) x wide h ∙ ap (λ (e : Extent). inCut x (cutTo wide e)) (near-extent cs g j (n g (head refl))))
-    (any-cut cs x wide j h l (λ k m. n k (tail m)))
+any-cut : (cs : List Pt) (x columns j : ℕ) → x < columns → (l : List Seg) → Near l j →
+    any (λ g. inSpan (extent cs g (pos j)) (pos x)) l ≡ any (inCut x) (map (λ g. cutTo columns (extentIn cs j g)) l)
+any-cut cs x columns j h [] n = refl
+any-cut cs x columns j h (g ∷ l) n =
+    ap₂ _||_ (in-cut (extent cs g (pos j)) x columns h ∙ ap (λ (e : Extent). inCut x (cutTo columns e)) (near-extent cs g j (n g (head refl))))
+    (any-cut cs x columns j h l (λ k m. n k (tail m)))
 
 -- a column of the raster is black by the extents when it is black by their cuts
-pub black-cut : (cs path : List Pt) (wide j x : ℕ) → Near (segments path) j → x < wide → blackAt cs path (pos j) (pos x) ≡ blackCut (cuts cs path wide j) x
-black-cut cs path wide j x n h = any-cut cs x wide j h (segments path) n
+pub black-cut : (cs path : List Pt) (columns j x : ℕ) → Near (segments path) j → x < columns → blackAt cs path (pos j) (pos x) ≡ blackCut (cuts cs path columns j) x
+black-cut cs path columns j x n h = any-cut cs x columns j h (segments path) n

@@ -8,13 +8,11 @@ use native.Mathlib.Omega.{arith}
 use native.Mathlib.Decide.{decLe}
 use lib.ListN.{length, getD}
 use lib.IntN.{ℤ, pos}
-use borrow.Author.Tests.{le-leb}
+use borrow.Author.Tests.{lt-ltb}
 use Rattle.integers.specs.Count.{_∈_}
 use Rattle.integers.proofs.Tests.{and-true}
 use Rattle.plane.specs.Point.{Pt, pt}
-use Rattle.checks.specs.declared.Verdict.the-variants.{Passed}
-use Rattle.checks.specs.Checks.{inRange, coordinateVerdict}
-use Rattle.checks.proofs.Verdicts.{all-good}
+use Rattle.limits.specs.Sizes.{inRange, rasterMax, Drawable}
 use Rattle.cuts.proofs.Raster.{Near}
 use Rattle.stroke.specs.Sweep.{Seg, between, segments}
 use Rattle.stroke.specs.Sweep.{pathPoints}
@@ -137,7 +135,7 @@ segments-good (P ∷ []) h g m = elim (cases m) [ inl e ↦ rw e (h P (head refl
 segments-good (P ∷ Q ∷ l) h g m = between-good P (Q ∷ l) (h P (head refl)) (λ R q. h R (tail q)) g m
 
 -- a path and a row that pass the checks are within the limits of an extent
-pub passed-near : (p : List ℤ) (j : ℕ) → coordinateVerdict p ≡ Passed → j ≤ 16383 → Near (segments (pathPoints p)) j
-passed-near p j e h g m =
-    let s = segments-good (pathPoints p) (points-good p (all-good 0 p e)) g m in
-    and-true _ _ (s .0) (and-true _ _ (s .1) (le-leb j 16383 h))
+pub drawable-near : {p : List ℤ} {columns j : ℕ} → Drawable p columns j → Near (segments (pathPoints p)) j
+drawable-near {p} {columns} {j} d g m =
+    let s = segments-good (pathPoints p) (points-good p (d .coordinates)) g m in
+    and-true _ _ (s .0) (and-true _ _ (s .1) (lt-ltb j rasterMax (d .low)))

@@ -14,7 +14,7 @@ use Rattle.cuts.specs.declared.cut.Cut.the-variants as cut·
 use Rattle.cuts.specs.declared.Touch.{Touch}
 use Rattle.cuts.specs.declared.Touch.the-variants as touch·
 use Rattle.cuts.specs.Cuts.{cuts, blackCut, touched, touchOf}
-use Rattle.cuts.proofs.Raster.{cuts-in}
+use Rattle.cuts.proofs.Raster.{cuts-below}
 
 -- ---- one cut after the other
 pub touch-step : (l : List Cut) (k : ℕ) (t : Touch) → k < length l → touchOf (drop k l) t ≡ touchOf (drop (suc k) l) (touched t (getD l k cut·.Nothing))
@@ -73,5 +73,5 @@ one-black (cut·.Columns m n ∷ l) a b e x =
     or-false (leb m x && leb x n) (blackCut l x) (s .2 x) ∙ ap₂ (λ (m n : ℕ). leb m x && leb x n) (s .0) (s .1)
 
 -- the one cut of a path lies within the raster
-pub one-in : (cs path : List Pt) (wide j a b : ℕ) → touchOf (cuts cs path wide j) touch·.Untouched ≡ touch·.One a b → (a ≤ b) × (b < wide)
-one-in cs path wide j a b e = cuts-in cs path wide j (cut·.Columns a b) (one-member (cuts cs path wide j) a b e)
+pub one-in : (cs path : List Pt) (columns j a b : ℕ) → touchOf (cuts cs path columns j) touch·.Untouched ≡ touch·.One a b → (a ≤ b) × (b < columns)
+one-in cs path columns j a b e = cuts-below cs path columns j (cut·.Columns a b) (one-member (cuts cs path columns j) a b e) a b refl

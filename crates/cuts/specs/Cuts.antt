@@ -1,20 +1,20 @@
 -- How the code goes about a row: each segment's extent is cut to the raster, and a row that several segments touch is put together in an array.
 -- `black-cut` and `black-far` (proofs/Raster, Marked) say that it comes to the same as `blackAt`.
-use Prim.Native.Nat.{ℕ, zero, suc, _-_, _≤_, _<_, min, max}
+use Prim.Native.Nat.{ℕ, zero, suc, _+_, _*_, _≤_, _<_, min, max}
 use mathlib.Core.Path.{_≡_}
 use mathlib.Core.Bool.{Bool, true, false, cond, _&&_}
 use mathlib.Core.List.{List, [], _∷_, map}
 use lib.Dec.{leb, ltb}
 use lib.ListN.{length, getD, set}
-use lib.IntN.{pos, natAbs, _-ℤ_}
+use lib.IntN.{ℤ, pos, natAbs, _-ℤ_}
 use lib.Signed.{leZ}
 use Rattle.integers.specs.Compare.{minZ, maxZ}
-use Rattle.plane.specs.Point.{Pt}
-use Rattle.checks.specs.Checks.{isSize}
-use Rattle.stroke.specs.Sweep.{Seg, segments}
+use Rattle.plane.specs.Point.{Pt, corners}
+use Rattle.limits.specs.Sizes.{isSize}
+use Rattle.stroke.specs.Sweep.{Seg, segments, pathPoints}
 use Rattle.extent.specs.declared.Extent.{Extent}
 use Rattle.extent.specs.declared.Extent.the-variants as extent·
-use Rattle.extent.specs.Answer.{extentOf}
+use Rattle.extent.specs.Answer.{seg, extentOf}
 use Rattle.stroke.specs.Runs.{any}
 use Rattle.cuts.specs.declared.cut.Cut.{Cut}
 use Rattle.cuts.specs.declared.cut.Cut.the-variants as cut·
@@ -22,11 +22,11 @@ use Rattle.cuts.specs.declared.Touch.{Touch}
 use Rattle.cuts.specs.declared.Touch.the-variants as touch·
 use Rattle.cuts.specs.declared.Bounds.{Bounds}
 
--- an extent within columns 0 .. wide - 1
+-- an extent within the raster, which has the columns 0 .. columns - 1
 abbrev pub cutTo : ℕ → Extent → Cut
-cutTo wide extent·.Nothing = cut·.Nothing
-cutTo wide (extent·.Columns first last) =
-    cond (leZ (maxZ first (pos 0)) (minZ last (pos wide -ℤ pos 1))) (cut·.Columns (natAbs (maxZ first (pos 0))) (natAbs (minZ last (pos wide -ℤ pos 1)))) cut·.Nothing
+cutTo columns extent·.Nothing = cut·.Nothing
+cutTo columns (extent·.Columns first last) =
+    cond (leZ (maxZ first (pos 0)) (minZ last (pos columns -ℤ pos 1))) (cut·.Columns (natAbs (maxZ first (pos 0))) (natAbs (minZ last (pos columns -ℤ pos 1)))) cut·.Nothing
 
 -- the extent of a segment, as the code answers it
 abbrev pub extentIn : List Pt → ℕ → Seg → Extent
@@ -34,7 +34,22 @@ extentIn cs j g = extentOf cs (g .from .x) (g .from .y) (g .to .x) (g .to .y) j
 
 -- the cuts of a path's segments in row j
 abbrev pub cuts : List Pt → List Pt → ℕ → ℕ → List Cut
-cuts cs path wide j = map (λ g. cutTo wide (extentIn cs j g)) (segments path)
+cuts cs path columns j = map (λ g. cutTo columns (extentIn cs j g)) (segments path)
+
+-- the same of the lists that the code holds: the corners are the first `count` of xs and ys, and the path is a list of entries
+abbrev pub cutsOf : List ℤ → List ℤ → ℕ → List ℤ → ℕ → ℕ → List Cut
+cutsOf xs ys count path columns j = cuts (corners count xs ys) (pathPoints path) columns j
+
+-- segment k of a path starts at the entry 2 k, and ends at the entry `end`
+pub record EndsAt (path : List ℤ) (k end : ℕ) : Type 0 where
+  pub after : 2 * k ≤ end
+  pub held : end + 1 < length path
+  pub segment : (g : Seg) → getD (segments (pathPoints path)) k g
+      ≡ seg (getD path (2 * k) (pos 0)) (getD path (2 * k + 1) (pos 0)) (getD path end (pos 0)) (getD path (end + 1) (pos 0))
+
+-- the columns of a cut, where it has any, are in order, and lie below n
+abbrev pub Below : ℕ → Cut → Type 0
+Below n cut = (left right : ℕ) → cut ≡ cut·.Columns left right → (left ≤ right) × (right < n)
 
 abbrev pub inCut : ℕ → Cut → Bool
 inCut x cut·.Nothing = false
@@ -57,7 +72,7 @@ touchOf (c ∷ cs) t = touchOf cs (touched t c)
 
 -- how many segments touch row j: none in a raster of no size that is allowed
 unfoldable pub touchIn : List Pt → List Pt → ℕ → ℕ → Touch
-touchIn cs path wide j = elim (isSize wide) [ true ↦ touchOf (cuts cs path wide j) touch·.Untouched | false ↦ touch·.Untouched ]
+touchIn cs path columns j = elim (isSize columns) [ true ↦ touchOf (cuts cs path columns j) touch·.Untouched | false ↦ touch·.Untouched ]
 
 -- far[l] is one past the furthest right end of the cuts that start at column l, and 0 where none does
 abbrev pub farther : List ℕ → Cut → List ℕ
@@ -88,8 +103,8 @@ pub record Together : Type 0 where
 
 -- the cuts of a path's segments in row j, put into an array; nothing where it is too short for the raster
 unfoldable pub together : List Pt → List Pt → ℕ → ℕ → List ℕ → Together
-together cs path wide j far = elim (isSize wide && leb wide (length far)) [
-  | true ↦ record { far = farOf (cuts cs path wide j) far; bounds = boundsOf (cuts cs path wide j) unbounded }
+together cs path columns j far = elim (isSize columns && leb columns (length far)) [
+  | true ↦ record { far = farOf (cuts cs path columns j) far; bounds = boundsOf (cuts cs path columns j) unbounded }
   | false ↦ record { far = far; bounds = unbounded }
 ]
 

@@ -4,14 +4,12 @@ use extent::Extent;
 use integers::max;
 use integers::min;
 ghost use mathlib.Core.Path.{_≡_};
-ghost use Prim.Native.Nat.{ℕ, _+_, _*_, _≤_, _<_};
+ghost use Prim.Native.Nat.{_<_};
 ghost use lib.ListN.{length, getD};
-ghost use lib.IntN.{pos};
-ghost use Rattle.plane.specs.Point.{corners};
-ghost use Rattle.stroke.specs.Sweep.{Seg, segments, pathPoints};
-ghost use Rattle.extent.specs.Answer.{seg};
+ghost use Rattle.limits.specs.Sizes.{Size};
+ghost use Rattle.stroke.specs.Sweep.{segments, pathPoints};
 ghost use Rattle.extent.specs.declared.Extent.the-variants as extent·;
-ghost use Rattle.cuts.specs.Cuts.{cutTo, cuts, touched, touchOf};
+ghost use Rattle.cuts.specs.Cuts.{cutTo, cutsOf, EndsAt, Below, touched, touchOf};
 
 // The columns of one segment within the raster, both included, or none.
 pub enum Cut {
@@ -32,12 +30,12 @@ pub fn segment_count(path: &[i32]) -> usize
 
 // The columns from first to last that the raster has. They can lie anywhere: both are compared with
 // the raster's ends before they become unsigned.
-fn cut_span(first: i64, last: i64, wide: usize) -> Cut
-    requires { ⌜ 1 ≤ wide ⌝ ∗ ⌜ wide ≤ 16384 ⌝ }
-    ensures { λ r. ⌜ r ≡ cutTo wide (extent·.Columns first last) ⌝ }
+fn cut_span(first: i64, last: i64, columns: usize) -> Cut
+    requires { ⌜ Size columns ⌝ }
+    ensures { λ r. ⌜ r ≡ cutTo columns (extent·.Columns first last) ⌝ }
 {
     let l = max(first, 0);
-    let r = min(last, wide as i64 - 1);
+    let r = min(last, columns as i64 - 1);
     if l <= r {
         return Cut::Columns(l as usize, r as usize);
     }
@@ -62,7 +60,7 @@ fn touched(t: Touch, c: Cut) -> Touch
 // there.
 fn end_of(path: &[i32], k: usize) -> usize
     requires { ⌜ k < length (segments (pathPoints (now path))) ⌝ }
-    ensures { λ r. ⌜ (2 * k ≤ r) × (r + 1 < length (now (path .entry))) ⌝ ∗ ⌜ ((g : Seg) → getD (segments (pathPoints (now (path .entry)))) k g ≡ seg (getD (now (path .entry)) (2 * k) (pos 0)) (getD (now (path .entry)) (2 * k + 1) (pos 0)) (getD (now (path .entry)) r (pos 0)) (getD (now (path .entry)) (r + 1) (pos 0))) ⌝ }
+    ensures { λ r. ⌜ EndsAt (now (path .entry)) k r ⌝ }
 {
     let from = 2 * k;
     if from + 3 < path.len() {
@@ -82,8 +80,10 @@ pub fn cut_at<'a>(
     columns: usize,
     row: u64,
 ) -> Cut
-    requires { ⌜ k < length (segments (pathPoints (now path))) ⌝ ∗ ⌜ (1 ≤ columns) × (columns ≤ 16384) ⌝ }
-    ensures { λ r. ⌜ r ≡ getD (cuts (corners count (now (xs .entry)) (now (ys .entry))) (pathPoints (now (path .entry))) columns row) k Cut.Nothing ⌝ ∗ ⌜ ((left right : ℕ) → r ≡ Cut.Columns left right → (left ≤ right) × (right < columns)) ⌝ }
+    requires segment { ⌜ k < length (segments (pathPoints (now path))) ⌝ }
+    requires size { ⌜ Size columns ⌝ }
+    ensures cut { λ r. ⌜ r ≡ getD (cutsOf (now (xs .entry)) (now (ys .entry)) count (now (path .entry)) columns row) k Cut.Nothing ⌝ }
+    ensures below { λ r. ⌜ Below columns r ⌝ }
 {
     let to = end_of(path, k);
     let from = 2 * k;
@@ -112,8 +112,8 @@ pub fn first_touches<'a>(
     columns: usize,
     row: u64,
 ) -> Touch
-    requires { ⌜ (1 ≤ columns) × (columns ≤ 16384) ⌝ }
-    ensures { λ r. ⌜ r ≡ touchOf (cuts (corners count (now (xs .entry)) (now (ys .entry))) (pathPoints (now (path .entry))) columns row) Touch.Untouched ⌝ }
+    requires { ⌜ Size columns ⌝ }
+    ensures { λ r. ⌜ r ≡ touchOf (cutsOf (now (xs .entry)) (now (ys .entry)) count (now (path .entry)) columns row) Touch.Untouched ⌝ }
 {
     let n = segment_count(path);
     let mut t = Touch::Untouched;

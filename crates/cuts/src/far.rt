@@ -6,59 +6,30 @@ use crate::Bounds;
 use crate::cut::Cut;
 use crate::cut::cut_at;
 use crate::cut::segment_count;
-use crate::further;
+use integers::max_u16;
+use integers::max_usize;
+use integers::min_usize;
 ghost use mathlib.Core.Path.{_≡_};
-ghost use Prim.Native.Nat.{ℕ, suc, min, max, _≤_, _<_};
-ghost use lib.ListN.{length, getD, set};
-ghost use Rattle.plane.specs.Point.{corners};
-ghost use Rattle.stroke.specs.Sweep.{pathPoints};
+ghost use Prim.Native.Nat.{_≤_, _<_};
+ghost use lib.ListN.{length};
+ghost use Rattle.limits.specs.Sizes.{rasterMax, Size};
 ghost use Rattle.cuts.specs.declared.cut.Cut.the-variants as cut·;
-ghost use Rattle.cuts.specs.Cuts.{cuts, farther, farOf, wider, boundsOf, unbounded};
+ghost use Rattle.cuts.specs.Cuts.{cutsOf, Below, farther, farOf, wider, boundsOf, unbounded};
 
 // One cut more in the array. A column lies below 16,384, so sixteen bits hold the one after it.
 fn mark(far: &mut [u16], left: usize, right: usize)
-    requires { ⌜ left < length (now far) ⌝ ∗ ⌜ right < 16384 ⌝ }
-    ensures { λ _. ⌜ now (far .exit) ≡ set (now (far .entry)) left (max (getD (now (far .entry)) left 0) (suc right)) ⌝ }
+    requires in_array { ⌜ left < length (now far) ⌝ }
+    requires in_raster { ⌜ right < rasterMax ⌝ }
+    ensures { λ _. ⌜ now (far .exit) ≡ farther (now (far .entry)) (cut·.Columns left right) ⌝ }
 {
     let end = (right + 1) as u16;
-    far[left] = further(far[left], end);
+    far[left] = max_u16(far[left], end);
 }
 
-fn earlier(a: usize, b: usize) -> usize
-    ensures { λ r. ⌜ r ≡ min a b ⌝ }
-{
-    if a < b {
-        return a;
-    }
-    b
-}
-
-fn later(a: usize, b: usize) -> usize
-    ensures { λ r. ⌜ r ≡ max a b ⌝ }
-{
-    if a < b {
-        return b;
-    }
-    a
-}
-
-// One cut more between the bounds.
-fn widen(b: Bounds, left: usize, right: usize) -> Bounds
-    requires { ⌜ right < 16384 ⌝ }
-    ensures { λ r. ⌜ r ≡ wider b (cut·.Columns left right) ⌝ }
-{
-    let end = right + 1;
-    if 0 < b.end {
-        return Bounds {
-            first: earlier(b.first, left),
-            end: later(b.end, end),
-        };
-    }
-    Bounds { first: left, end }
-}
-
+// The same of a cut that may have no columns.
 fn mark_cut(far: &mut [u16], cut: Cut)
-    requires { ⌜ ((l r : ℕ) → cut ≡ cut·.Columns l r → (l < length (now far)) × (r < 16384)) ⌝ }
+    requires in_array { ⌜ Below (length (now far)) cut ⌝ }
+    requires in_raster { ⌜ Below rasterMax cut ⌝ }
     ensures { λ _. ⌜ now (far .exit) ≡ farther (now (far .entry)) cut ⌝ }
 {
     let Cut::Columns(left, right) = cut else {
@@ -67,8 +38,24 @@ fn mark_cut(far: &mut [u16], cut: Cut)
     mark(far, left, right);
 }
 
+// One cut more between the bounds.
+fn widen(b: Bounds, left: usize, right: usize) -> Bounds
+    requires { ⌜ right < rasterMax ⌝ }
+    ensures { λ r. ⌜ r ≡ wider b (cut·.Columns left right) ⌝ }
+{
+    let end = right + 1;
+    if 0 < b.end {
+        return Bounds {
+            first: min_usize(b.first, left),
+            end: max_usize(b.end, end),
+        };
+    }
+    Bounds { first: left, end }
+}
+
+// The same of a cut that may have no columns.
 fn widen_cut(b: Bounds, cut: Cut) -> Bounds
-    requires { ⌜ ((l r : ℕ) → cut ≡ cut·.Columns l r → r < 16384) ⌝ }
+    requires { ⌜ Below rasterMax cut ⌝ }
     ensures { λ r. ⌜ r ≡ wider b cut ⌝ }
 {
     let Cut::Columns(left, right) = cut else {
@@ -84,17 +71,19 @@ pub fn gather<'a>(
     ys: &'a [i8],
     count: usize,
     path: &[i32],
-    wide: usize,
+    columns: usize,
     row: u64,
 ) -> Bounds
-    requires { ⌜ (1 ≤ wide) × (wide ≤ 16384) ⌝ ∗ ⌜ wide ≤ length (now far) ⌝ }
-    ensures { λ r. ⌜ now (far .exit) ≡ farOf (cuts (corners count (now (xs .entry)) (now (ys .entry))) (pathPoints (now (path .entry))) wide row) (now (far .entry)) ⌝ ∗ ⌜ r ≡ boundsOf (cuts (corners count (now (xs .entry)) (now (ys .entry))) (pathPoints (now (path .entry))) wide row) unbounded ⌝ }
+    requires size { ⌜ Size columns ⌝ }
+    requires room { ⌜ columns ≤ length (now far) ⌝ }
+    ensures marked { λ _. ⌜ now (far .exit) ≡ farOf (cutsOf (now (xs .entry)) (now (ys .entry)) count (now (path .entry)) columns row) (now (far .entry)) ⌝ }
+    ensures bounds { λ r. ⌜ r ≡ boundsOf (cutsOf (now (xs .entry)) (now (ys .entry)) count (now (path .entry)) columns row) unbounded ⌝ }
 {
     let n = segment_count(path);
     let mut b = Bounds { first: 0, end: 0 };
     let mut k = 0;
     while k < n {
-        let cut = cut_at(xs, ys, count, path, k, wide, row);
+        let cut = cut_at(xs, ys, count, path, k, columns, row);
         mark_cut(far, cut);
         b = widen_cut(b, cut);
         k += 1;

@@ -5,10 +5,9 @@
 // (far). What each function promises is cited from specs/.
 ghost use mathlib.Core.Path.{_≡_};
 ghost use mathlib.Core.Bool.{_&&_};
-ghost use Prim.Native.Nat.{max};
 ghost use lib.Dec.{leb};
 ghost use Rattle.plane.specs.Point.{corners};
-ghost use Rattle.checks.specs.Checks.{isSize};
+ghost use Rattle.limits.specs.Sizes.{isSize};
 ghost use Rattle.stroke.specs.Sweep.{pathPoints};
 ghost use Rattle.cuts.specs.Cuts.{Together, touchIn, together};
 
@@ -29,16 +28,6 @@ pub struct Bounds {
     pub end: usize,
 }
 
-// The further of two ends.
-pub fn further(a: u16, b: u16) -> u16
-    ensures { λ r. ⌜ r ≡ max a b ⌝ }
-{
-    if a < b {
-        return b;
-    }
-    a
-}
-
 // How many segments touch the row, for the pen whose corners are the first `count` places of xs and
 // ys. None does in a raster of no size that document 01 allows.
 pub fn touching<'a>(
@@ -51,7 +40,7 @@ pub fn touching<'a>(
 ) -> Touch
     ensures { λ r. ⌜ r ≡ touchIn (corners count (now (xs .entry)) (now (ys .entry))) (pathPoints (now (path .entry))) columns row ⌝ }
 {
-    if !checks::is_size(columns as u64) {
+    if !limits::is_size(columns as u64) {
         return Touch::Untouched;
     }
     cut::first_touches(xs, ys, count, path, columns, row)
@@ -68,7 +57,8 @@ pub fn put_together<'a>(
     columns: usize,
     row: u64,
 ) -> Bounds
-    ensures { λ r. ⌜ _≡_ {A = Together} (record { far = now (far .exit); bounds = r }) (together (corners count (now (xs .entry)) (now (ys .entry))) (pathPoints (now (path .entry))) columns row (now (far .entry))) ⌝ }
+    ensures { λ r. ⌜ _≡_ {A = Together} (record { far = now (far .exit); bounds = r })
+        (together (corners count (now (xs .entry)) (now (ys .entry))) (pathPoints (now (path .entry))) columns row (now (far .entry))) ⌝ }
 {
     if !serves(columns, far.len()) {
         return Bounds { first: 0, end: 0 };
@@ -80,5 +70,5 @@ pub fn put_together<'a>(
 fn serves(columns: usize, length: usize) -> bool
     ensures { λ r. ⌜ r ≡ (isSize columns && leb columns length) ⌝ }
 {
-    checks::is_size(columns as u64) && columns <= length
+    limits::is_size(columns as u64) && columns <= length
 }

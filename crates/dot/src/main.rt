@@ -1,13 +1,15 @@
 // Document 01's whole PBM file of a dot, on standard output: w=16, dot at (32,16), 5 columns, 3
 // rows.
-use drawing::Written;
+use checks::Answer;
 use libc::STDOUT_FILENO;
 ghost use mathlib.Core.Path.{_≡_};
-ghost use Rattle.drawing.specs.Film.{filePut};
+ghost use Rattle.limits.specs.declared.Verdict.the-variants.{Passed};
+ghost use Rattle.checks.specs.Answer.{given};
+ghost use Rattle.drawing.specs.Film.{fileOffer};
 ghost use Rattle.drawing.specs.Cases.{dotBytes};
 
-fn dot(out: &mut [u8]) -> Written
-    ensures { λ r. ⌜ record { written = r; buffer = now (out .exit) } ≡ filePut dotBytes (now (out .entry)) ⌝ }
+fn dot(out: &mut [u8]) -> Answer
+    ensures { λ r. ⌜ record { answer = r; list = now (out .exit) } ≡ given Passed (fileOffer dotBytes (now (out .entry))) ⌝ }
 {
     let settings = [16, 1, 1];
     let apertures = [10];
@@ -19,6 +21,7 @@ fn dot(out: &mut [u8]) -> Written
 
 fn main() {
     let mut out = [0u8; 10];
-    let written = dot(&mut out);
-    io::write_all(STDOUT_FILENO, &out[..written.count]);
+    let answer = dot(&mut out);
+    let length = answer.count as usize;
+    io::write_all(STDOUT_FILENO, &out[..length]);
 }

@@ -6,7 +6,8 @@ use mathlib.Core.Bool.{true}
 use mathlib.Core.List.{List, [], _∷_, _++_}
 use lib.ListN.{length, getD}
 use lib.IntN.{pos}
-use Rattle.setting.specs.Setting.{Taken, taken, Dx, Dy}
+use Rattle.setting.specs.Setting.{taken, Dx, Dy}
+use Rattle.setting.specs.Answer.{checked}
 use Rattle.quarter.specs.NearRoot.{norm, lower, tried, bisect, nearRoot}
 use Rattle.quarter.specs.Cutting.{amount, retained, corners, quarter}
 use Rattle.pen.specs.Polygon.{upAndBack, onceEach, pen}
@@ -17,9 +18,10 @@ use Rattle.aperture.specs.Reachable.{Reachable, starts, defines, Holds}
 use Rattle.stroke.specs.Sides.{furthest, sides}
 use Rattle.stroke.specs.Black.{kept}
 use Rattle.stroke.specs.Extent.{narrowed, extent}
-use Rattle.checks.specs.Checks.{inRange, coordinateFrom, verdict}
+use Rattle.limits.specs.Sizes.{inRange}
+use Rattle.checks.specs.Checks.{coordinateFrom, verdict}
 use Rattle.stroke.specs.Runs.{blackAt}
-use Rattle.checks.specs.declared.Verdict.the-variants.{Passed}
+use Rattle.limits.specs.declared.Verdict.the-variants.{Passed}
 use Rattle.stroke.specs.Sweep.{pathPoints}
 use Rattle.packed.specs.Packed.{bitsFrom, bytesFrom, packed}
 use Rattle.pbm.specs.Pbm.{lastDigits, header, topFirst, file}
@@ -33,7 +35,7 @@ unfolding taken
 is-taken = refl
 
 place : placeOf (defined empty 10 dotSetting .table) 10 ≡ holding dotSetting
-unfolding defined taken
+unfolding defined checked taken
 place = refl
 
 holds : Holds (tableOf (16 ∷ 1 ∷ 1 ∷ [])) 10 dotSetting

@@ -9,22 +9,17 @@ use lib.Dec.{leb, ltb}
 use lib.ListN.{length, getD, replicate, length-replicate, drop-of-length-le}
 use lib.IntN.{ℤ, pos}
 use borrow.Author.Tests.{le-leb}
-use Rattle.integers.proofs.Tests.{and-true}
 use Rattle.setting.specs.declared.Setting.{Setting}
 use Rattle.plane.specs.Point.{Pt}
 use Rattle.pen.specs.Polygon.{pen}
-use Rattle.pen.specs.Answer.{penCorners}
-use Rattle.pen.proofs.Laid.{corners-back}
 use Rattle.aperture.specs.declared.Table.{Table}
-use Rattle.aperture.specs.declared.Place.{Place}
-use Rattle.aperture.specs.declared.Looked.the-variants as looking
-use Rattle.aperture.specs.Table.{looked}
 use Rattle.stroke.specs.Runs.{blackAt}
-use Rattle.checks.specs.declared.Verdict.the-variants.{Passed}
+use Rattle.limits.specs.declared.Verdict.the-variants.{Passed}
 use Rattle.checks.specs.Checks.{verdict}
 use Rattle.checks.specs.Answer.{Result}
 use Rattle.stroke.specs.Sweep.{pathPoints}
-use Rattle.packed.specs.Packed.{bitsFrom, bytesFrom, packed, packedLength, packedResult, packResult, packedCall}
+use Rattle.packed.specs.Packed.{bitsFrom, bytesFrom, packed, packedLength, packResult, packedCall}
+use Rattle.packed.proofs.Demands.{packed-call-is}
 use Rattle.aperture.specs.Reachable.{Holds}
 use Rattle.drawing.specs.Film.{Drawing, laidOver, added, pathOf, rowUpTo}
 use Rattle.drawing.specs.Theorems.{anyBelow, Drawable, FilmRow}
@@ -83,30 +78,16 @@ pub packed-clear : (columns : ℕ) → packed (λ x. false) columns ≡ replicat
 packed-clear columns = clear-bytes _ (λ x. nowhere (ltb x columns)) 0 (packedLength columns)
 
 -- ---- the row of a stroke whose aperture is in use and that passes the checks
-held : {t : Table} {n : ℕ} {σ : Setting} → Holds t n σ → looked t n ≡ looking.At (n - 10)
-unfolding looked
-held {t} {n} {σ} h = rw (and-true _ _ (h .number) (ap (λ (p : Place). p .used) (h .place)), looked)
-
-call-is : {t : Table} {n : ℕ} {σ : Setting} → Holds t n σ → (p : List ℤ) (columns rows j : ℕ) (b : List ℕ) →
-    packedCall t n p columns rows j b ≡ packResult (pen σ) p columns rows j b
-unfolding packedCall
-call-is {t} {n} {σ} h p columns rows j b =
-    rw (held h, packedCall)
-    (ap (λ (cs : List Pt). packResult cs p columns rows j b) (ap (λ (q : Place). penCorners (q .pen)) (h .place) ∙ corners-back 132 (pen σ)))
-
-passed : (cs : List Pt) (p : List ℤ) (columns rows j : ℕ) (b : List ℕ) → verdict p columns rows j ≡ Passed →
-    packResult cs p columns rows j b ≡ packedResult (λ x. blackAt cs (pathPoints p) (pos j) (pos x)) columns b
+filled : (cs : List Pt) (p : List ℤ) (columns rows j : ℕ) → verdict p columns rows j ≡ Passed →
+    packResult cs p columns rows j (replicate (packedLength columns) 0) .list ≡ packed (λ x. blackAt cs (pathPoints p) (pos j) (pos x)) columns
 unfolding packResult
-passed cs p columns rows j b e = rw (e, packResult)
-
-filled : (f : ℕ → Bool) (columns : ℕ) → packedResult f columns (replicate (packedLength columns) 0) .list ≡ packed f columns
-filled f columns =
+filled cs p columns rows j e =
     let n = packedLength columns in
     let zeros : List ℕ = replicate n 0 in
     let l : length zeros ≡ n = length-replicate n 0 in
     let fits : leb n (length zeros) ≡ true = le-leb n (length zeros) (omega arith) in
     let k : length zeros ≤ n = omega arith in
-    rw fits (ap (λ (r : List ℕ). packed f columns ++ r) (drop-of-length-le zeros k) ∙ append-nil (packed f columns))
+    rw (e, fits, packResult) (ap (λ (r : List ℕ). packed (λ x. blackAt cs (pathPoints p) (pos j) (pos x)) columns ++ r) (drop-of-length-le zeros k) ∙ append-nil _)
 
 bytes-length : (f : ℕ → Bool) (i n : ℕ) → length (bytesFrom f i n) ≡ n
 unfolding bytesFrom
@@ -120,7 +101,7 @@ over-stroke {t} {n} {σ} h p columns rows j v f =
     let part : ℕ → List ℕ = λ m. packedCall t n p columns rows j (replicate m 0) .list in
     let zeros : List ℕ = replicate (packedLength columns) 0 in
     let one : part (packedLength columns) ≡ packed black columns =
-    ap (λ (r : Result). r .list) (call-is h p columns rows j zeros ∙ passed (pen σ) p columns rows j zeros v) ∙ filled black columns in
+    ap (λ (r : Result ℕ). r .list) (packed-call-is h p columns rows j zeros) ∙ filled (pen σ) p columns rows j v in
     ap (λ (m : ℕ). laidOver (packed f columns) (part m)) (bytes-length (λ x. ltb x columns && f x) 0 (packedLength columns)) ∙ ap (laidOver (packed f columns)) one ∙ over-packed f black columns
 
 pub film-row : FilmRow

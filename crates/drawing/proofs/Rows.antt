@@ -12,15 +12,16 @@ use lib.Seq.{take-all, take-at, take-nil, drop-nil, length-take-le, slice}
 use lib.IntN.{ℤ}
 use borrow.Author.Tests.{leb-true, leb-false}
 use Rattle.aperture.specs.Table.{empty, defined}
-use Rattle.pbm.specs.Pbm.{isSize, header, topFirst, started, Put, headerPut}
-use Rattle.pbm.proofs.Pieces.{room, whole}
+use Rattle.limits.specs.Sizes.{apertureMin, isSize}
+use Rattle.pbm.specs.Pbm.{header, topFirst, started, Put, headerPut}
+use Rattle.pbm.proofs.Pieces.{header-fits, header-put}
 use Rattle.drawing.specs.Film.{settingAt, tableUpTo, Drawing, pathOf, added, rowUpTo}
 
 pub none : (l : List ℕ) → empty ≡ tableUpTo l 0
 unfolding tableUpTo
 none l = refl
 
-pub one-more : (l : List ℕ) (i : ℕ) → defined (tableUpTo l i) (10 + i) (settingAt l i) .table ≡ tableUpTo l (i + 1)
+pub one-more : (l : List ℕ) (i : ℕ) → defined (tableUpTo l i) (apertureMin + i) (settingAt l i) .table ≡ tableUpTo l (i + 1)
 unfolding tableUpTo
 one-more l i = rw (add-one i)
 
@@ -91,7 +92,7 @@ last-row f out at row e h = sym (take-all at out h) ∙ sym (append-nil (take at
 -- a header that fits is put whole
 pub put-whole : (columns rows : ℕ) (b : List ℕ) → isSize columns ≡ true → isSize rows ≡ true → length (header columns rows) ≤ length b →
     headerPut columns rows b ≡ record { count = length (header columns rows); buffer = started (header columns rows) b }
-put-whole columns rows b h k l = sym (whole columns rows b (room columns rows b h k l) refl refl)
+put-whole columns rows b h k l = sym (header-put columns rows b (header-fits columns rows b h k l) refl refl)
 
 -- what stands behind the header is all replaced
 pub replaced : (h new last : List ℕ) (at : ℕ) → take at last ≡ h → take at last ++ (new ++ drop (length last - at) (drop at last)) ≡ h ++ new

@@ -12,7 +12,7 @@ use Rattle.plane.specs.Polygon.{chain, edges}
 use Rattle.stroke.specs.Sides.{furthest, sides}
 use Rattle.stroke.specs.Black.{kept}
 use Rattle.stroke.specs.Extent.{narrowed, extent}
-use Rattle.checks.specs.Checks.{inRange}
+use Rattle.limits.specs.Sizes.{inRange}
 use Rattle.stroke.specs.Runs.{blackAt}
 use Rattle.stroke.specs.Sweep.{pathPoints}
 use Rattle.packed.specs.Packed.{bitsFrom, bytesFrom, packed}

@@ -1,19 +1,19 @@
 -- The film of a drawing: several strokes, each with an aperture of a table.
 use Prim.Native.Nat.{ℕ, zero, suc, _+_, _*_, _/_}
-use mathlib.Core.Bool.{Bool, cond, _&&_}
 use mathlib.Core.List.{List, [], _∷_}
 use lib.Bits.{bitOr}
-use lib.Dec.{leb}
 use lib.ListN.{length, getD, replicate}
 use lib.Seq.{slice}
 use lib.IntN.{ℤ}
+use Rattle.limits.specs.Sizes.{apertureMin, Size}
 use Rattle.setting.specs.declared.Setting.{Setting}
-use Rattle.setting.specs.Refusal.{Refusal, number, raster, room}
 use Rattle.aperture.specs.declared.Table.{Table}
 use Rattle.aperture.specs.Table.{empty, defined}
+use Rattle.checks.specs.Checks.{rasterVerdict}
+use Rattle.checks.specs.Answer.{Result, Offer, given}
 use Rattle.packed.specs.Packed.{packedLength, packedCall}
-use Rattle.pbm.specs.Pbm.{isSize, file, started}
-use Rattle.drawing.specs.declared.Written.{Written}
+use Rattle.pbm.specs.Pbm.{header, file, started}
+use Rattle.drawing.specs.declared.Sheet.{Sheet}
 
 -- the setting at place i of a list of w, p, q, w, p, q, ..
 abbrev pub settingAt : List ℕ → ℕ → Setting
@@ -22,7 +22,7 @@ settingAt l i = record { w = getD l (3 * i) 0; p = getD l (3 * i + 1) 0; q = get
 -- the table with the first n settings of a list as apertures 10, 11, ..
 unfoldable pub tableUpTo : List ℕ → ℕ → Table
 tableUpTo l zero = empty
-tableUpTo l (suc i) = defined (tableUpTo l i) (10 + i) (settingAt l i) .table
+tableUpTo l (suc i) = defined (tableUpTo l i) (apertureMin + i) (settingAt l i) .table
 
 abbrev pub tableOf : List ℕ → Table
 tableOf l = tableUpTo l (length l / 3)
@@ -60,23 +60,24 @@ rowOf d columns rows width j = rowUpTo d columns rows j width (length (d .apertu
 abbrev pub film : Drawing → ℕ → ℕ → List ℕ
 film d columns rows = file columns rows (rowOf d columns rows (packedLength columns))
 
--- what is answered, and the buffer at exit
-pub record Result : Type 0 where
-  pub written : Written
-  pub buffer : List ℕ
+-- how many bytes that file has
+abbrev pub filmLength : ℕ → ℕ → ℕ
+filmLength columns rows = length (header columns rows) + rows * packedLength columns
 
--- "The first that applies is the answer", "and nothing lent is changed"
-abbrev pub refusal : Refusal → List ℕ → Result
-refusal r b = record { written = record { refusal = number r; count = 0 }; buffer = b }
+-- what a call offers that has this file: it stands at the start of the buffer, the rest of which is unchanged
+abbrev pub fileOffer : List ℕ → List ℕ → Offer ℕ
+fileOffer f b = record { count = length f; space = length b; after = started f b; before = b }
 
--- a file at the start of a buffer, the rest of which is unchanged; 7 where the file is longer than the buffer
-abbrev pub filePut : List ℕ → List ℕ → Result
-filePut f b = cond (leb (length f) (length b)) (record { written = record { refusal = 0; count = length f }; buffer = started f b }) (refusal room b)
+-- the film as a file in a buffer: 4, "raster size outside 1 to 16,384", comes before 7
+abbrev pub filmPut : Drawing → ℕ → ℕ → List ℕ → Result ℕ
+filmPut d columns rows b = given (rasterVerdict columns rows) (fileOffer (film d columns rows) b)
 
--- 4: "raster size outside 1 to 16,384"
-abbrev pub isRaster : ℕ → ℕ → Bool
-isRaster columns rows = isSize columns && isSize rows
+-- ---- what the code is asked
+-- the drawing of a sheet and the lists beside it
+abbrev pub drawingOf : Sheet → List ℕ → List ℕ → List ℤ → Drawing
+drawingOf s apertures starts entries = record { table = s .table; apertures = apertures; starts = starts; entries = entries }
 
--- the film as a file in a buffer: 4 comes before 7
-abbrev pub filmPut : Drawing → ℕ → ℕ → List ℕ → Result
-filmPut d columns rows b = cond (isRaster columns rows) (filePut (film d columns rows) b) (refusal raster b)
+-- the sizes of a raster that is drawn
+pub record Raster (columns rows : ℕ) : Type 0 where
+  pub columns-size : Size columns
+  pub rows-size : Size rows

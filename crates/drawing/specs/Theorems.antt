@@ -8,7 +8,7 @@ use lib.IntN.{pos}
 use Rattle.setting.specs.declared.Setting.{Setting}
 use Rattle.pen.specs.Polygon.{pen}
 use Rattle.stroke.specs.Runs.{blackAt}
-use Rattle.checks.specs.declared.Verdict.the-variants.{Passed}
+use Rattle.limits.specs.declared.Verdict.the-variants.{Passed}
 use Rattle.checks.specs.Checks.{verdict}
 use Rattle.stroke.specs.Sweep.{pathPoints}
 use Rattle.packed.specs.Packed.{packed, packedLength}

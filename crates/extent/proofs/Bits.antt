@@ -2,13 +2,15 @@
 use mathlib.Core.Path.{_≡_, sym, ap, ap₂, subst, _∙_}
 use mathlib.Core.Bool.{Bool, cond}
 use mathlib.Core.Logic.{inl, inr}
-use Prim.Native.Nat.{ℕ, _+_, _^_, _≤_}
+use Prim.Native.Nat.{ℕ, _+_, _^_, _<_}
+use native.Mathlib.Nat.{le-of-lt}
 use lib.Dec.{T, ltb}
 use lib.IntN.{ℤ, pos, negℤ, _+ℤ_, _-ℤ_, _*ℤ_, +ℤ-idl}
 use mir.Syntax.{Width, w8, w64}
 use mir.Val.{SFits, hbits, toZ, ofZ}
 use mir.Facts.{toZ-ofZ}
 use Rattle.integers.specs.Bound.{Abs}
+use Rattle.limits.specs.Sizes.{rasterMax}
 use Rattle.integers.specs.Compare.{minZ, maxZ}
 use Rattle.integers.proofs.Tests.{max-case, min-case}
 use Rattle.integers.proofs.Bound.{abs-fits}
@@ -38,13 +40,13 @@ min-of : (P : ℤ → Type 0) {x y : ℤ} → P x → P y → P (minZ x y)
 min-of P {x} {y} p q = elim (min-case x y) [ inl h ↦ subst P (sym (h .0)) p | inr h ↦ subst P (sym (h .0)) q ]
 
 module _ {w : Width} {x y r : ℤ} {m k n : ℕ} (p : Is w x m n) (q : Is w y k n) where
-  pub greatest : r ≡ maxZ (toZ w m) (toZ w k) → Is w (maxZ x y) (ofZ w r) n
-  greatest e =
+  pub max-is : r ≡ maxZ (toZ w m) (toZ w k) → Is w (maxZ x y) (ofZ w r) n
+  max-is e =
       let f = e ∙ ap₂ maxZ (p .reads) (q .reads) in
       got (subst (SFits w) (sym f) (max-of (SFits w) (p .fits) (q .fits))) f (max-of (λ z. Abs z n) (p .abs) (q .abs))
 
-  pub least : r ≡ minZ (toZ w m) (toZ w k) → Is w (minZ x y) (ofZ w r) n
-  least e =
+  pub min-is : r ≡ minZ (toZ w m) (toZ w k) → Is w (minZ x y) (ofZ w r) n
+  min-is e =
       let f = e ∙ ap₂ minZ (p .reads) (q .reads) in
       got (subst (SFits w) (sym f) (min-of (SFits w) (p .fits) (q .fits))) f (min-of (λ z. Abs z n) (p .abs) (q .abs))
 
@@ -58,9 +60,12 @@ coordinate f h =
 pub opposite : {x : ℤ} {m n : ℕ} → Is w64 x m n → T (ltb (0 + n) (2 ^ hbits w64)) → Is w64 (negℤ x) (bits (pos 0) ⊖ m) (0 + n)
 opposite {x} p t = along (+ℤ-idl (negℤ x)) (sub (num (pos 0) tt) p t)
 
--- a row's place, in sixteenths of a pixel
-pub row-place : {j : ℕ} → j ≤ 16383 → Is w64 (pos 16 *ℤ pos j) (bits (pos 16) ⊗ j) 262128
-row-place {j} h = mul (num (pos 16) tt) (of-nat j h tt) tt
+-- a row, and its place in sixteenths of a pixel
+pub row-number : {j : ℕ} → j < rasterMax → Is w64 (pos j) j rasterMax
+row-number {j} h = of-nat j (le-of-lt h) tt
+
+pub row-place : {j : ℕ} → j < rasterMax → Is w64 (pos 16 *ℤ pos j) (bits (pos 16) ⊗ j) 262144
+row-place h = mul (num (pos 16) tt) (row-number h) tt
 
 -- what a test picks
 pub picked : {A : Type 0} {t u : Bool} (x y : A) → t ≡ u → cond t x y ≡ cond u x y

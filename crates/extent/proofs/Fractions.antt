@@ -14,7 +14,7 @@ use Rattle.integers.proofs.Floor.{floorDiv-lo, le-floorDiv}
 use Rattle.extent.specs.declared.limit.Fraction.{Fraction}
 use Rattle.stroke.specs.Extent.{Limit, free, at, upper, lower}
 use Rattle.extent.specs.Held.{lastTo, atMost, atLeast}
-use Rattle.stroke.proofs.Limits.{sixteen}
+use Rattle.stroke.proofs.Limits.{sixteen-pos}
 
 -- ---- the greater fraction has the greater last column
 scaled : (r a s b q : ℤ) → pos 0 ≺ b → (pos 16 *ℤ a) *ℤ q ≼ r → r *ℤ b ≼ s *ℤ a → a *ℤ (q *ℤ (pos 16 *ℤ b)) ≼ a *ℤ s
@@ -23,7 +23,7 @@ scaled = ring 5 _ (λ ρ hb h k. mul-nn (sub-pos hb) (sub-nn h) ⊢ h ⊢ k ⊢ 
 ordered : (r a s b : ℤ) → pos 0 ≺ a → pos 0 ≺ b → r *ℤ b ≼ s *ℤ a → lastTo r a ≼ lastTo s b
 ordered r a s b ha hb h =
     let q = lastTo r a in
-    le-floorDiv s (pos 16 *ℤ b) q (sixteen b hb) .1 (mul-cancel a (q *ℤ (pos 16 *ℤ b)) s ha (scaled r a s b q hb (floorDiv-lo r (pos 16 *ℤ a) (sixteen a ha)) h))
+    le-floorDiv s (pos 16 *ℤ b) q (sixteen-pos b hb) .1 (mul-cancel a (q *ℤ (pos 16 *ℤ b)) s ha (scaled r a s b q hb (floorDiv-lo r (pos 16 *ℤ a) (sixteen-pos a ha)) h))
 
 -- ---- the lesser and the greater of two numbers in order
 min-l : (a b : ℤ) → a ≼ b → minZ a b ≡ a

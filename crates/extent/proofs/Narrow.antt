@@ -60,6 +60,6 @@ module _ (s : Limits) where
       go false l = refl
 
   module _ (some : s .some ≡ true) (l : pos 0 ≺ s .least .by) (r : pos 0 ≺ s .most .by) where
-    pub between : (t : Bool) → leZ (lastTo (s .least .num) (s .least .by) +ℤ pos 1) (lastTo (s .most .num) (s .most .by)) ≡ t →
+    pub columns-between : (t : Bool) → leZ (lastTo (s .least .num) (s .least .by) +ℤ pos 1) (lastTo (s .most .num) (s .most .by)) ≡ t →
         answered (spanOf (left s)) ≡ answered (cond t (columns (lastTo (s .least .num) (s .least .by) +ℤ pos 1) (lastTo (s .most .num) (s .most .by))) none)
-    between t e = rw (some, least-given (s .least) l, most-given (s .most) r, e)
+    columns-between t e = rw (some, least-given (s .least) l, most-given (s .most) r, e)

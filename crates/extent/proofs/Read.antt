@@ -1,8 +1,7 @@
 -- The corners that two arrays hold, read place by place.
-use Prim.Native.Nat.{ℕ, zero, suc, _-_, _≤_, _<_}
+use Prim.Native.Nat.{ℕ, zero, suc, _-_, min, _≤_, _<_}
 use native.Mathlib.Omega.{arith}
 use mathlib.Core.Path.{_≡_, refl, ap, _∙_}
-use mathlib.Core.Logic.{_⊎_, inl, inr, ⊎-elim}
 use mathlib.Core.List.{List, [], _∷_}
 use lib.ListN.{length, getD, drop, drop-of-length-le}
 use lib.Seq.{drop-cons}
@@ -41,17 +40,16 @@ from-place n xs ys i h k l =
     drop-cons cs i origin (omega (arith, corners-long n xs ys h k)) ∙ ap (λ (z : Pt). z ∷ drop (suc i) cs) (corner-at n xs ys i h k l)
 
 -- as many as both arrays have are all of them
-pub fewest : (n m : ℕ) (xs ys : List ℤ) → n ≤ m → (m ≤ n) ⊎ ((length xs ≤ n) ⊎ (length ys ≤ n)) → corners m xs ys ≡ corners n xs ys
+pub corners-all : (n m : ℕ) (xs ys : List ℤ) → n ≡ min m (min (length xs) (length ys)) → corners m xs ys ≡ corners n xs ys
 unfolding points
-fewest zero zero xs ys h k = refl
-fewest zero (suc m) [] ys h k = refl
-fewest zero (suc m) (x ∷ xs) [] h k = refl
-fewest zero (suc m) (x ∷ xs) (y ∷ ys) h k = absurd (⊎-elim (λ l. omega arith) (λ l. ⊎-elim (λ l. omega arith) (λ l. omega arith) l) k)
-fewest (suc n) zero xs ys h k = absurd (omega arith)
-fewest (suc n) (suc m) [] ys h k = refl
-fewest (suc n) (suc m) (x ∷ xs) [] h k = refl
-fewest (suc n) (suc m) (x ∷ xs) (y ∷ ys) h k =
-    ap (λ (l : List Pt). pt x y ∷ l) (fewest n m xs ys (omega arith) (⊎-elim (λ l. inl (omega arith)) (λ l. inr (⊎-elim (λ l. inl (omega arith)) (λ l. inr (omega arith)) l)) k))
+corners-all zero zero xs ys h = refl
+corners-all zero (suc m) [] ys h = refl
+corners-all zero (suc m) (x ∷ xs) [] h = refl
+corners-all zero (suc m) (x ∷ xs) (y ∷ ys) h = absurd (omega arith)
+corners-all (suc n) zero xs ys h = absurd (omega arith)
+corners-all (suc n) (suc m) [] ys h = absurd (omega arith)
+corners-all (suc n) (suc m) (x ∷ xs) [] h = absurd (omega arith)
+corners-all (suc n) (suc m) (x ∷ xs) (y ∷ ys) h = ap (λ (l : List Pt). pt x y ∷ l) (corners-all n m xs ys (omega arith))
 
 -- how far a pen reaches
 pub reach-none : (xs ys : List ℤ) → pos 0 ≡ reach (corners 0 xs ys)

@@ -22,7 +22,7 @@ head F [] = F
 head F (P ∷ l) = P
 
 -- the edges from the corners of the list, the last one to F
-pub rest : Pt → List Pt → List Side
+rest : Pt → List Pt → List Side
 rest F [] = []
 rest F (P ∷ l) = chain F P l
 
@@ -37,14 +37,14 @@ edges-rest [] = refl
 edges-rest (P ∷ l) = refl
 
 -- the place after place i of n
-abbrev pub after : ℕ → ℕ → ℕ
-after i n = cond (ltb (i + 1) n) (i + 1) 0
+abbrev pub cornerAfter : ℕ → ℕ → ℕ
+cornerAfter i n = cond (ltb (i + 1) n) (i + 1) 0
 
 module _ (n : ℕ) (xs ys : List ℤ) (h : n ≤ length xs) (k : n ≤ length ys) where
   first : 0 < n → head origin (corners n xs ys) ≡ place xs ys 0
   first l = ap (head origin) (from-place n xs ys 0 h k l)
 
-  next : (i : ℕ) → i < n → head (head origin (corners n xs ys)) (drop (suc i) (corners n xs ys)) ≡ place xs ys (after i n)
+  next : (i : ℕ) → i < n → head (head origin (corners n xs ys)) (drop (suc i) (corners n xs ys)) ≡ place xs ys (cornerAfter i n)
   next i l = go (ltb (i + 1) n) refl
     where
       go : (t : Bool) → ltb (i + 1) n ≡ t → head (head origin (corners n xs ys)) (drop (suc i) (corners n xs ys)) ≡ place xs ys (cond t (i + 1) 0)
@@ -54,28 +54,28 @@ module _ (n : ℕ) (xs ys : List ℤ) (h : n ≤ length xs) (k : n ≤ length ys
           ∙ first (omega arith)
 
   -- what is left after the edges from place i on
-  pub since : ℤ → Seg → ℕ → Left → Left
-  since j g i s = narrowed j (map (moved g) (rest (head origin (corners n xs ys)) (drop i (corners n xs ys)))) s
+  pub leftSince : ℤ → Seg → ℕ → Left → Left
+  leftSince j g i s = narrowed j (map (moved g) (rest (head origin (corners n xs ys)) (drop i (corners n xs ys)))) s
 
   module _ (j : ℤ) (g : Seg) (s : Left) where
-    pub at-start : narrowed j (map (moved g) (edges (corners n xs ys))) s ≡ since j g 0 s
-    unfolding since
-    at-start = ap (λ (l : List Side). narrowed j (map (moved g) l) s) (edges-rest (corners n xs ys))
+    pub since-start : narrowed j (map (moved g) (edges (corners n xs ys))) s ≡ leftSince j g 0 s
+    unfolding leftSince
+    since-start = ap (λ (l : List Side). narrowed j (map (moved g) l) s) (edges-rest (corners n xs ys))
 
-    pub one-edge : (i : ℕ) → i < n → since j g i s ≡ since j g (i + 1) (narrow j (moved g (edge (place xs ys i) (place xs ys (after i n)))) s)
-    unfolding since narrowed
-    one-edge i l =
+    pub since-next : (i : ℕ) → i < n → leftSince j g i s ≡ leftSince j g (i + 1) (narrow j (moved g (edge (place xs ys i) (place xs ys (cornerAfter i n)))) s)
+    unfolding leftSince narrowed
+    since-next i l =
         let F = head origin (corners n xs ys) in
         let cs = drop (suc i) (corners n xs ys) in
         let m : List Side → Left = λ es. narrowed j (map (moved g) es) s in
         ap (λ (l : List Pt). m (rest F l)) (from-place n xs ys i h k l)
         ∙ ap m (rest-cons F (place xs ys i) cs)
         ∙ ap (λ (Q : Pt). m (edge (place xs ys i) Q ∷ rest F cs)) (next i l)
-        ∙ ap (λ (k : ℕ). since j g k (narrow j (moved g (edge (place xs ys i) (place xs ys (after i n)))) s)) (sym (add-one i))
+        ∙ ap (λ (k : ℕ). leftSince j g k (narrow j (moved g (edge (place xs ys i) (place xs ys (cornerAfter i n)))) s)) (sym (add-one i))
 
-    pub at-end : (i : ℕ) → n ≤ i → since j g i s ≡ s
-    unfolding since rest narrowed
-    at-end i l = ap (λ (l : List Pt). narrowed j (map (moved g) (rest (head origin (corners n xs ys)) l)) s) (drop-of-length-le (corners n xs ys) {i = i} (omega (arith, corners-long n xs ys h k)))
+    pub since-end : (i : ℕ) → n ≤ i → leftSince j g i s ≡ s
+    unfolding leftSince rest narrowed
+    since-end i l = ap (λ (l : List Pt). narrowed j (map (moved g) (rest (head origin (corners n xs ys)) l)) s) (drop-of-length-le (corners n xs ys) {i = i} (omega (arith, corners-long n xs ys h k)))
 
 -- the sides of one list after those of another
 pub narrowed-append : (j : ℤ) (l m : List Side) (s : Left) → narrowed j (l ++ m) s ≡ narrowed j m (narrowed j l s)

@@ -2,18 +2,13 @@
 use Prim.Native.Nat.{ℕ}
 use mathlib.Core.Bool.{Bool, true, false, _&&_}
 use mathlib.Core.List.{List}
-use lib.Dec.{leb}
 use lib.IntN.{ℤ, pos}
 use Rattle.plane.specs.Point.{Pt, pt}
 use Rattle.extent.specs.declared.Extent.{Extent}
 use Rattle.extent.specs.declared.Extent.the-variants as extent·
 use Rattle.stroke.specs.Sweep.{Seg}
 use Rattle.stroke.specs.Extent.{Span, none, columns, extent}
-use Rattle.checks.specs.Checks.{inRange}
-
--- "columns and rows each 1 to 16,384. Rows .. count from 0"
-abbrev pub isRow : ℕ → Bool
-isRow j = leb j 16383
+use Rattle.limits.specs.Sizes.{inRange, isRow}
 
 abbrev pub seg : ℤ → ℤ → ℤ → ℤ → Seg
 seg ax ay bx by = record { from = pt ax ay; to = pt bx by }

@@ -1,6 +1,6 @@
 -- What the code's structs hold, in the words of the definitions. These are asked and promised inside the crate only; no promise to its callers is made
 -- of them.
-use Prim.Native.Nat.{ℕ, _^_, _≤_}
+use Prim.Native.Nat.{ℕ, _^_, _≤_, _<_}
 use mathlib.Core.Bool.{Bool, true, cond}
 use mathlib.Core.List.{List}
 use lib.ListN.{length}
@@ -9,6 +9,7 @@ use lib.Signed.{leZ, ltZ}
 use Rattle.integers.specs.Bound.{Abs}
 use Rattle.integers.specs.Floor.{floorDiv}
 use Rattle.plane.specs.Point.{pt}
+use Rattle.limits.specs.Sizes.{rasterMax}
 use Rattle.extent.specs.declared.limit.Fraction.{Fraction}
 use Rattle.extent.specs.declared.limit.Limits.{Limits}
 use Rattle.extent.specs.declared.side.Ends.{Ends}
@@ -37,11 +38,12 @@ flatLeaves b c place = cond (kept (pos 0) b) (leZ place c) (ltZ place c)
 abbrev pub start : Left
 start = record { some = true; least = free; most = free }
 
--- small enough that the product of a num and a by fits 64 bits
+-- a fraction small enough that the product of a num and a by fits 64 bits
 pub record Fair (f : Fraction) : Type 0 where
   pub num-small : Abs (f .num) (2 ^ 40)
   pub by-small : Abs (f .by) (2 ^ 19)
 
+-- both fractions are so
 pub record Steady (s : Limits) : Type 0 where
   pub least : Fair (s .least)
   pub most : Fair (s .most)
@@ -52,12 +54,23 @@ pub record Bounded (a b c : ℤ) : Type 0 where
   pub b-small : Abs b (2 ^ 19)
   pub c-small : Abs c (2 ^ 39)
 
--- a segment within the limits
-pub record Near (g : Ends) : Type 0 where
+-- a normal's numbers: those of an edge, and those of the path's direction
+pub record Normal (a b : ℤ) : Type 0 where
+  pub a-small : Abs a (2 ^ 19)
+  pub b-small : Abs b (2 ^ 19)
+
+-- a corner's numbers, which a byte holds
+pub record Corner (x y : ℤ) : Type 0 where
+  pub x-small : Abs x 128
+  pub y-small : Abs y 128
+
+-- a segment and a row within the limits
+pub record Near (g : Ends) (row : ℕ) : Type 0 where
   pub ax-small : Abs (g .ax) (2 ^ 18)
   pub ay-small : Abs (g .ay) (2 ^ 18)
   pub bx-small : Abs (g .bx) (2 ^ 18)
   pub by-small : Abs (g .by) (2 ^ 18)
+  pub low : row < rasterMax
 
 abbrev pub ends : Ends → Seg
 ends g = record { from = pt (g .ax) (g .ay); to = pt (g .bx) (g .by) }

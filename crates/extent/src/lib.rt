@@ -3,14 +3,13 @@
 // The way of the data: the segment and the row are checked against document 01's limits, the sides
 // of the segment's sweep (side) narrow the row's columns one after the other (limit), and what is
 // left is the answer. What each function promises is cited from specs/.
+use integers::min_usize;
 use pen::Pen;
 ghost use mathlib.Core.Path.{_≡_};
 ghost use mathlib.Core.Bool.{_&&_};
-ghost use mathlib.Core.Logic.{_⊎_};
-ghost use Prim.Native.Nat.{_≤_};
 ghost use Rattle.plane.specs.Point.{corners};
 ghost use Rattle.pen.specs.Answer.{penCorners};
-ghost use Rattle.checks.specs.Checks.{inRange};
+ghost use Rattle.limits.specs.Sizes.{inRange};
 ghost use Rattle.extent.specs.Answer.{allowed, seg, extentOf};
 ghost use Rattle.extent.specs.Held.{ends};
 
@@ -29,7 +28,7 @@ pub enum Extent {
 fn both(x: i32, y: i32) -> bool
     ensures { λ r. ⌜ r ≡ (inRange x && inRange y) ⌝ }
 {
-    checks::in_range(x) && checks::in_range(y)
+    limits::in_range(x) && limits::in_range(y)
 }
 
 // Whether the segment and the row are within the limits: rows count from 0, and a raster has at most
@@ -37,14 +36,7 @@ fn both(x: i32, y: i32) -> bool
 fn allowed(ax: i32, ay: i32, bx: i32, by: i32, row: u64) -> bool
     ensures { λ r. ⌜ r ≡ allowed ax ay bx by row ⌝ }
 {
-    both(ax, ay) && (both(bx, by) && row <= 16383)
-}
-
-// The lesser of two counts.
-fn least(a: usize, b: usize) -> usize
-    ensures { λ r. ⌜ (r ≤ a) × (r ≤ b) × ((a ≤ r) ⊎ (b ≤ r)) ⌝ }
-{
-    if a <= b { a } else { b }
+    both(ax, ay) && (both(bx, by) && row < limits::RASTER_MAX as u64)
 }
 
 // The ends in the numbers that the rest counts with.
@@ -78,7 +70,7 @@ pub fn extent_at<'a>(
         return Extent::Nothing;
     }
     // Corners that the arrays do not have are none.
-    let n = least(count, least(xs.len(), ys.len()));
+    let n = min_usize(count, min_usize(xs.len(), ys.len()));
     let g = wide(ax, ay, bx, by);
     // Most rows miss most segments.
     if !side::reached(ys, n, g, row) {

@@ -2,9 +2,9 @@
 // so that a side costs two products and no division.
 use crate::Extent;
 ghost use mathlib.Core.Path.{_≡_};
-ghost use Prim.Native.Nat.{_^_, _≤_};
+ghost use Prim.Native.Nat.{_<_};
 ghost use lib.IntN.{pos, _+ℤ_};
-ghost use Rattle.integers.specs.Bound.{Abs};
+ghost use Rattle.limits.specs.Sizes.{rasterMax};
 ghost use Rattle.integers.specs.Orders.{_≺_};
 ghost use Rattle.stroke.specs.Black.{kept};
 ghost use Rattle.stroke.specs.Extent.{upper, lower, narrow, spanOf};
@@ -26,7 +26,8 @@ pub struct Limits {
 
 // Before the first side: no limits.
 pub fn all() -> Limits
-    ensures { λ r. ⌜ left r ≡ start ⌝ ∗ ⌜ Steady r ⌝ }
+    ensures answer { λ r. ⌜ left r ≡ start ⌝ }
+    ensures steady { λ r. ⌜ Steady r ⌝ }
 {
     Limits {
         some: true,
@@ -38,8 +39,11 @@ pub fn all() -> Limits
 // The lesser of f and num / by. Both divisors are positive, so that the products compare as the
 // fractions do.
 fn lesser(f: Fraction, num: i64, by: i64) -> Fraction
-    requires { ⌜ Fair f ⌝ ∗ ⌜ pos 0 ≺ by ⌝ ∗ ⌜ Abs num (2 ^ 40) ⌝ ∗ ⌜ Abs by (2 ^ 19) ⌝ }
-    ensures { λ r. ⌜ atMost r ≡ upper (atMost f) (lastTo num by) ⌝ ∗ ⌜ Fair r ⌝ }
+    requires old { ⌜ Fair f ⌝ }
+    requires positive { ⌜ pos 0 ≺ by ⌝ }
+    requires new { ⌜ Fair (record { num = num; by = by }) ⌝ }
+    ensures answer { λ r. ⌜ atMost r ≡ upper (atMost f) (lastTo num by) ⌝ }
+    ensures fair { λ r. ⌜ Fair r ⌝ }
 {
     if f.by <= 0 || num * f.by < f.num * by {
         return Fraction { num: num, by: by };
@@ -49,8 +53,11 @@ fn lesser(f: Fraction, num: i64, by: i64) -> Fraction
 
 // The greater of f and num / by.
 fn greater(f: Fraction, num: i64, by: i64) -> Fraction
-    requires { ⌜ Fair f ⌝ ∗ ⌜ pos 0 ≺ by ⌝ ∗ ⌜ Abs num (2 ^ 40) ⌝ ∗ ⌜ Abs by (2 ^ 19) ⌝ }
-    ensures { λ r. ⌜ atLeast r ≡ lower (atLeast f) (lastTo num by +ℤ pos 1) ⌝ ∗ ⌜ Fair r ⌝ }
+    requires old { ⌜ Fair f ⌝ }
+    requires positive { ⌜ pos 0 ≺ by ⌝ }
+    requires new { ⌜ Fair (record { num = num; by = by }) ⌝ }
+    ensures answer { λ r. ⌜ atLeast r ≡ lower (atLeast f) (lastTo num by +ℤ pos 1) ⌝ }
+    ensures fair { λ r. ⌜ Fair r ⌝ }
 {
     if f.by <= 0 || f.num * by < num * f.by {
         return Fraction { num: num, by: by };
@@ -75,8 +82,11 @@ fn leaves(b: i64, c: i64, at: i64) -> bool
 
 // One side more, a x + b y <= c, in the given row. Its room is what a * 16i may reach at most.
 pub fn narrow(s: Limits, a: i64, b: i64, c: i64, row: u64) -> Limits
-    requires { ⌜ Steady s ⌝ ∗ ⌜ Bounded a b c ⌝ ∗ ⌜ row ≤ 16383 ⌝ }
-    ensures { λ r. ⌜ left r ≡ narrow (pos row) (record { a = a; b = b; c = c }) (left s) ⌝ ∗ ⌜ Steady r ⌝ }
+    requires steady { ⌜ Steady s ⌝ }
+    requires side { ⌜ Bounded a b c ⌝ }
+    requires low { ⌜ row < rasterMax ⌝ }
+    ensures answer { λ r. ⌜ left r ≡ narrow (pos row) (record { a = a; b = b; c = c }) (left s) ⌝ }
+    ensures steady { λ r. ⌜ Steady r ⌝ }
 {
     let at = b * (16 * (row as i64));
     let room = c - at;

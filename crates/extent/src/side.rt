@@ -17,7 +17,7 @@ ghost use Rattle.plane.specs.Point.{pt, corners};
 ghost use Rattle.plane.specs.Polygon.{edge, edges, reach};
 ghost use Rattle.stroke.specs.Sides.{moved, furthest, touching, pathSides, sides};
 ghost use Rattle.stroke.specs.Extent.{narrow, narrowed, reached};
-ghost use Rattle.extent.specs.Held.{left, start, Steady, Near, ends, Held};
+ghost use Rattle.extent.specs.Held.{left, start, Steady, Normal, Corner, Near, ends, Held};
 
 // The ends A and B of a segment, in sixteenths of a pixel.
 pub struct Ends {
@@ -29,7 +29,8 @@ pub struct Ends {
 
 // A corner's coordinate in the numbers that the rest counts with.
 fn wide(x: i8) -> i64
-    ensures { λ r. ⌜ r ≡ x ⌝ ∗ ⌜ Abs r 128 ⌝ }
+    ensures same { λ r. ⌜ r ≡ x ⌝ }
+    ensures small { λ r. ⌜ Abs r 128 ⌝ }
 {
     x as i64
 }
@@ -45,8 +46,12 @@ fn next(i: usize, n: usize) -> usize
 // The edge from the corner P to the corner Q. Its normal is the direction turned right, and its
 // line stands at the end where it lies further out.
 fn edge(s: Limits, g: Ends, row: u64, px: i64, py: i64, qx: i64, qy: i64) -> Limits
-    requires { ⌜ Steady s ⌝ ∗ ⌜ Near g ⌝ ∗ ⌜ row ≤ 16383 ⌝ ∗ ⌜ Abs px 128 × Abs py 128 × Abs qx 128 × Abs qy 128 ⌝ }
-    ensures { λ r. ⌜ left r ≡ narrow (pos row) (moved (ends g) (edge (pt px py) (pt qx qy))) (left s) ⌝ ∗ ⌜ Steady r ⌝ }
+    requires steady { ⌜ Steady s ⌝ }
+    requires near { ⌜ Near g row ⌝ }
+    requires from { ⌜ Corner px py ⌝ }
+    requires to { ⌜ Corner qx qy ⌝ }
+    ensures answer { λ r. ⌜ left r ≡ narrow (pos row) (moved (ends g) (edge (pt px py) (pt qx qy))) (left s) ⌝ }
+    ensures steady { λ r. ⌜ Steady r ⌝ }
 {
     let a = qy - py;
     let b = px - qx;
@@ -56,8 +61,11 @@ fn edge(s: Limits, g: Ends, row: u64, px: i64, py: i64, qx: i64, qy: i64) -> Lim
 
 // All edges, counterclockwise from corner 0.
 fn edges<'a>(s: Limits, xs: &'a [i8], ys: &'a [i8], n: usize, g: Ends, row: u64) -> Limits
-    requires { ⌜ Steady s ⌝ ∗ ⌜ Held n (now xs) (now ys) ⌝ ∗ ⌜ Near g ⌝ ∗ ⌜ row ≤ 16383 ⌝ }
-    ensures { λ r. ⌜ left r ≡ narrowed (pos row) (map (moved (ends g)) (edges (corners n (now (xs .entry)) (now (ys .entry))))) (left s) ⌝ ∗ ⌜ Steady r ⌝ }
+    requires steady { ⌜ Steady s ⌝ }
+    requires held { ⌜ Held n (now xs) (now ys) ⌝ }
+    requires near { ⌜ Near g row ⌝ }
+    ensures answer { λ r. ⌜ left r ≡ narrowed (pos row) (map (moved (ends g)) (edges (corners n (now (xs .entry)) (now (ys .entry))))) (left s) ⌝ }
+    ensures steady { λ r. ⌜ Steady r ⌝ }
 {
     let mut r = s;
     let mut i = 0;
@@ -75,8 +83,10 @@ fn edges<'a>(s: Limits, xs: &'a [i8], ys: &'a [i8], n: usize, g: Ends, row: u64)
 
 // The greatest a x + b y over the corners, and 0.
 fn furthest<'a>(xs: &'a [i8], ys: &'a [i8], n: usize, a: i64, b: i64) -> i64
-    requires { ⌜ Held n (now xs) (now ys) ⌝ ∗ ⌜ Abs a (2 ^ 19) ⌝ ∗ ⌜ Abs b (2 ^ 19) ⌝ }
-    ensures { λ r. ⌜ r ≡ furthest a b (corners n (now (xs .entry)) (now (ys .entry))) ⌝ ∗ ⌜ Abs r (2 ^ 27) ⌝ }
+    requires held { ⌜ Held n (now xs) (now ys) ⌝ }
+    requires normal { ⌜ Normal a b ⌝ }
+    ensures answer { λ r. ⌜ r ≡ furthest a b (corners n (now (xs .entry)) (now (ys .entry))) ⌝ }
+    ensures small { λ r. ⌜ Abs r (2 ^ 27) ⌝ }
 {
     let mut m = 0;
     let mut i = n;
@@ -100,8 +110,12 @@ fn touch<'a>(
     b: i64,
     row: u64,
 ) -> Limits
-    requires { ⌜ Steady s ⌝ ∗ ⌜ Held n (now xs) (now ys) ⌝ ∗ ⌜ Near g ⌝ ∗ ⌜ Abs a (2 ^ 19) × Abs b (2 ^ 19) ⌝ ∗ ⌜ row ≤ 16383 ⌝ }
-    ensures { λ r. ⌜ left r ≡ narrow (pos row) (touching (corners n (now (xs .entry)) (now (ys .entry))) (pt (g .ax) (g .ay)) a b) (left s) ⌝ ∗ ⌜ Steady r ⌝ }
+    requires steady { ⌜ Steady s ⌝ }
+    requires held { ⌜ Held n (now xs) (now ys) ⌝ }
+    requires near { ⌜ Near g row ⌝ }
+    requires normal { ⌜ Normal a b ⌝ }
+    ensures answer { λ r. ⌜ left r ≡ narrow (pos row) (touching (corners n (now (xs .entry)) (now (ys .entry))) (pt (g .ax) (g .ay)) a b) (left s) ⌝ }
+    ensures steady { λ r. ⌜ Steady r ⌝ }
 {
     let out = furthest(xs, ys, n, a, b);
     narrow(s, a, b, 8 * out + (a * g.ax + b * g.ay), row)
@@ -109,8 +123,11 @@ fn touch<'a>(
 
 // The two lines along the path; a dot has none.
 fn along<'a>(s: Limits, xs: &'a [i8], ys: &'a [i8], n: usize, g: Ends, row: u64) -> Limits
-    requires { ⌜ Steady s ⌝ ∗ ⌜ Held n (now xs) (now ys) ⌝ ∗ ⌜ Near g ⌝ ∗ ⌜ row ≤ 16383 ⌝ }
-    ensures { λ r. ⌜ left r ≡ narrowed (pos row) (pathSides (corners n (now (xs .entry)) (now (ys .entry))) (ends g)) (left s) ⌝ ∗ ⌜ Steady r ⌝ }
+    requires steady { ⌜ Steady s ⌝ }
+    requires held { ⌜ Held n (now xs) (now ys) ⌝ }
+    requires near { ⌜ Near g row ⌝ }
+    ensures answer { λ r. ⌜ left r ≡ narrowed (pos row) (pathSides (corners n (now (xs .entry)) (now (ys .entry))) (ends g)) (left s) ⌝ }
+    ensures steady { λ r. ⌜ Steady r ⌝ }
 {
     if g.ax == g.bx && g.ay == g.by {
         return s;
@@ -123,8 +140,10 @@ fn along<'a>(s: Limits, xs: &'a [i8], ys: &'a [i8], n: usize, g: Ends, row: u64)
 
 // What all sides leave.
 pub fn narrowed<'a>(xs: &'a [i8], ys: &'a [i8], n: usize, g: Ends, row: u64) -> Limits
-    requires { ⌜ Held n (now xs) (now ys) ⌝ ∗ ⌜ Near g ⌝ ∗ ⌜ row ≤ 16383 ⌝ }
-    ensures { λ r. ⌜ left r ≡ narrowed (pos row) (sides (corners n (now (xs .entry)) (now (ys .entry))) (ends g)) start ⌝ ∗ ⌜ Steady r ⌝ }
+    requires held { ⌜ Held n (now xs) (now ys) ⌝ }
+    requires near { ⌜ Near g row ⌝ }
+    ensures answer { λ r. ⌜ left r ≡ narrowed (pos row) (sides (corners n (now (xs .entry)) (now (ys .entry))) (ends g)) start ⌝ }
+    ensures steady { λ r. ⌜ Steady r ⌝ }
 {
     let s = edges(all(), xs, ys, n, g, row);
     along(s, xs, ys, n, g, row)
@@ -133,7 +152,8 @@ pub fn narrowed<'a>(xs: &'a [i8], ys: &'a [i8], n: usize, g: Ends, row: u64) -> 
 // How far up and down the pen reaches, whatever its corners' x are: corner 0 is the lowest.
 fn reach(ys: &[i8], n: usize) -> i64
     requires { do ⌜ n ≤ (← ⟦ys.len()⟧) ⌝ }
-    ensures { λ r. ⌜ ((xs : List ℤ) → n ≤ length xs → r ≡ reach (corners n xs (now (ys .entry)))) ⌝ ∗ ⌜ Abs r 128 ⌝ }
+    ensures answer { λ r. ⌜ ((xs : List ℤ) → n ≤ length xs → r ≡ reach (corners n xs (now (ys .entry)))) ⌝ }
+    ensures small { λ r. ⌜ Abs r 128 ⌝ }
 {
     if n == 0 {
         return 0;
@@ -143,7 +163,8 @@ fn reach(ys: &[i8], n: usize) -> i64
 
 // Whether the row is within the segment's reach.
 pub fn reached(ys: &[i8], n: usize, g: Ends, row: u64) -> bool
-    requires { do ⌜ n ≤ (← ⟦ys.len()⟧) ⌝ ∗ ⌜ Near g ⌝ ∗ ⌜ row ≤ 16383 ⌝ }
+    requires held { do ⌜ n ≤ (← ⟦ys.len()⟧) ⌝ }
+    requires near { ⌜ Near g row ⌝ }
     ensures { λ r. ⌜ ((xs : List ℤ) → n ≤ length xs → r ≡ reached (corners n xs (now (ys .entry))) (ends g) (pos row)) ⌝ }
 {
     let far = 8 * reach(ys, n);

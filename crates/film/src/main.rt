@@ -10,7 +10,7 @@ fn main() {
     let entries = legend::ENTRIES;
     let table = drawing::table(&settings);
     let mut space = io::large_buffer();
-    let written = drawing::put_film(
+    let answer = drawing::put_film(
         table,
         &apertures,
         &starts,
@@ -19,5 +19,6 @@ fn main() {
         legend::ROWS,
         &mut space,
     );
-    io::write_all(STDOUT_FILENO, &space[..written.count]);
+    let length = answer.count as usize;
+    io::write_all(STDOUT_FILENO, &space[..length]);
 }

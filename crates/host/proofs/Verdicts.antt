@@ -1,5 +1,5 @@
 -- The checks over a path of bytes, and how small the numbers of a refusal are.
-use Prim.Native.Nat.{ℕ, suc, _+_, _%_, _≤_, _<_}
+use Prim.Native.Nat.{ℕ, suc, _+_, _*_, _%_, _≤_, _<_}
 use mathlib.Core.Path.{_≡_, refl, subst}
 use mathlib.Core.Bool.{Bool, true, false, _&&_}
 use mathlib.Core.List.{List, [], _∷_}
@@ -9,32 +9,43 @@ use lib.Dec.{leb, ltb, eqb}
 use lib.IntN.{ℤ}
 use lib.ListN.{length}
 use Rattle.integers.proofs.Tests.{and-both, and-false}
-use Rattle.setting.specs.Refusal.{Refusal, number, path, raster, row, coordinate}
-use Rattle.checks.specs.Checks.{inRange, refuse, unless, isSize, pathVerdict, rasterVerdict, rowVerdict, coordinateFrom, coordinateVerdict, _then_, verdict}
-use Rattle.checks.specs.declared.Verdict.{Verdict}
-use Rattle.checks.specs.declared.Verdict.the-variants.{Passed, Refused}
+use Rattle.limits.specs.Refusal.{Refusal, number, path, raster, row, coordinate, refuse, unless, _then_}
+use Rattle.limits.specs.Sizes.{entriesMax, inRange, isSize}
+use Rattle.limits.proofs.Verdicts.{not-passed}
+use Rattle.checks.specs.Checks.{isLength, pathVerdict, rasterVerdict, rowVerdict, coordinateFrom, coordinateVerdict, verdict}
+use Rattle.limits.specs.declared.Verdict.{Verdict}
+use Rattle.limits.specs.declared.Verdict.the-variants.{Passed, Refused}
 use Rattle.wire.specs.Read.{entriesOf}
 use Rattle.wire.proofs.Entries.{entries-length}
-use Rattle.host.specs.Host.{bytesVerdict}
+use Rattle.host.specs.Call.{bytesVerdict}
 
 -- ---- the length of the bytes
 -- a path with too many entries is refused, whatever else is wrong
-too-long : (p : List ℤ) (columns rows j : ℕ) → 8192 < length p → verdict p columns rows j ≡ Refused 2 0
-too-long p columns rows j h = rw (and-false (leb 1 (length p)) (eqb (length p % 2) 0 && leb (length p) 8192) (and-false (eqb (length p % 2) 0) (leb (length p) 8192) (lt-leb (length p) 8192 h)))
+too-long : (p : List ℤ) (columns rows j : ℕ) → entriesMax < length p → verdict p columns rows j ≡ refuse path 0
+too-long p columns rows j h =
+    let long = and-false (eqb (length p % 2) 0) (leb (length p) entriesMax) (lt-leb (length p) entriesMax h) in
+    rw (and-false (leb 1 (length p)) (eqb (length p % 2) 0 && leb (length p) entriesMax) long)
 
-pub bytes-refused : (b : List ℕ) (columns rows j : ℕ) → (eqb (length b % 4) 0 && leb (length b) 32768) ≡ false → bytesVerdict b columns rows j ≡ Refused 2 0
+-- the check of the length refuses bytes that are no path, and no path's bytes
+pub bytes-refused : (b : List ℕ) (columns rows j : ℕ) → (eqb (length b % 4) 0 && leb (length b) (4 * entriesMax)) ≡ false → bytesVerdict b columns rows j ≡ refuse path 0
 bytes-refused b columns rows j e = go (eqb (length b % 4) 0) refl e
   where
-    go : (t : Bool) → eqb (length b % 4) 0 ≡ t → (t && leb (length b) 32768) ≡ false → (unless t path then verdict (entriesOf b) columns rows j) ≡ Refused 2 0
+    go : (t : Bool) → eqb (length b % 4) 0 ≡ t → (t && leb (length b) (4 * entriesMax)) ≡ false → (unless t path then verdict (entriesOf b) columns rows j) ≡ refuse path 0
     go false q e = refl
-    go true q e = too-long (entriesOf b) columns rows j (omega (arith, entries-length b, leb-false (length b) 32768 e, eqb-true (length b % 4) 0 q))
+    go true q e = too-long (entriesOf b) columns rows j (omega (arith, entries-length b, leb-false (length b) (4 * entriesMax) e, eqb-true (length b % 4) 0 q))
 
-pub bytes-read : (b : List ℕ) (columns rows j : ℕ) → (eqb (length b % 4) 0 && leb (length b) 32768) ≡ true →
-    (bytesVerdict b columns rows j ≡ verdict (entriesOf b) columns rows j) × (length b ≤ 32768)
-bytes-read b columns rows j e = let h = and-both (eqb (length b % 4) 0) (leb (length b) 32768) e in (rw (h .0), leb-true (length b) 32768 (h .1))
+-- bytes that pass it are a path, and its checks are what is left
+pub record Read (b : List ℕ) (columns rows j : ℕ) : Type 0 where
+  pub same : bytesVerdict b columns rows j ≡ verdict (entriesOf b) columns rows j
+  pub short : length b ≤ 4 * entriesMax
+
+pub bytes-read : (b : List ℕ) (columns rows j : ℕ) → (eqb (length b % 4) 0 && leb (length b) (4 * entriesMax)) ≡ true → Read b columns rows j
+bytes-read b columns rows j e =
+    let h = and-both (eqb (length b % 4) 0) (leb (length b) (4 * entriesMax)) e in
+    record { same = rw (h .0); short = leb-true (length b) (4 * entriesMax) (h .1) }
 
 -- ---- the numbers of a refusal
-abbrev Small : ℕ → Verdict → Type 0
+abbrev pub Small : ℕ → Verdict → Type 0
 Small m Passed = Unit
 Small m (Refused n place) = (1 ≤ n) × (n < 7) × (place ≤ m)
 
@@ -56,25 +67,24 @@ small-then : (m : ℕ) (u v : Verdict) → Small m u → (u ≡ Passed → Small
 small-then m Passed v s t = t refl
 small-then m (Refused n place) v s t = s
 
-path-short : (p : List ℤ) → pathVerdict p ≡ Passed → length p ≤ 8192
-path-short p e = go (leb 1 (length p) && (eqb (length p % 2) 0 && leb (length p) 8192)) refl e
+path-short : (p : List ℤ) → pathVerdict p ≡ Passed → length p ≤ entriesMax
+path-short p e = go (isLength (length p)) refl e
   where
-    go : (t : Bool) → (leb 1 (length p) && (eqb (length p % 2) 0 && leb (length p) 8192)) ≡ t → unless t path ≡ Passed → length p ≤ 8192
-    go true q e = leb-true (length p) 8192 (and-both (eqb (length p % 2) 0) (leb (length p) 8192) (and-both (leb 1 (length p)) (eqb (length p % 2) 0 && leb (length p) 8192) q .1) .1)
-    go false q e = absurd (let z : _≡_ {A = ℕ} 0 1 = cc in omega arith)
+    go : (t : Bool) → isLength (length p) ≡ t → unless t path ≡ Passed → length p ≤ entriesMax
+    go true q e =
+        let some = and-both (leb 1 (length p)) (eqb (length p % 2) 0 && leb (length p) entriesMax) q in
+        leb-true (length p) entriesMax (and-both (eqb (length p % 2) 0) (leb (length p) entriesMax) (some .1) .1)
+    go false q e = not-passed e
 
-small-verdict : (p : List ℤ) (columns rows j : ℕ) → Small 8192 (verdict p columns rows j)
+pub small-verdict : (p : List ℤ) (columns rows j : ℕ) → Small entriesMax (verdict p columns rows j)
 small-verdict p columns rows j =
-    small-then 8192 (pathVerdict p) (rasterVerdict columns rows then rowVerdict rows j then coordinateVerdict p) (small-unless (leb 1 (length p) && (eqb (length p % 2) 0 && leb (length p) 8192)) path 8192 (omega arith) (omega arith))
-    (λ e. small-then 8192 (rasterVerdict columns rows) (rowVerdict rows j then coordinateVerdict p) (small-unless (isSize columns && isSize rows) raster 8192 (omega arith) (omega arith))
-    (λ _. small-then 8192 (rowVerdict rows j) (coordinateVerdict p) (small-unless (ltb j rows) row 8192 (omega arith) (omega arith)) (λ _. short (path-short p e))))
+    small-then entriesMax (pathVerdict p) (rasterVerdict columns rows then rowVerdict rows j then coordinateVerdict p) (small-unless (isLength (length p)) path entriesMax (omega arith) (omega arith))
+    (λ e. small-then entriesMax (rasterVerdict columns rows) (rowVerdict rows j then coordinateVerdict p) (small-unless (isSize columns && isSize rows) raster entriesMax (omega arith) (omega arith))
+    (λ _. small-then entriesMax (rowVerdict rows j) (coordinateVerdict p) (small-unless (ltb j rows) row entriesMax (omega arith) (omega arith)) (λ _. short (path-short p e))))
   where
     wider : (v : Verdict) {m n : ℕ} → m ≤ n → Small m v → Small n v
     wider Passed h s = tt
     wider (Refused n place) h s = (s .0, s .1, omega (arith, s .2))
 
-    short : length p ≤ 8192 → Small 8192 (coordinateVerdict p)
+    short : length p ≤ entriesMax → Small entriesMax (coordinateVerdict p)
     short h = wider (coordinateVerdict p) (omega arith) (small-coordinate 0 p)
-
-pub refusal-small : (p : List ℤ) (columns rows j n place : ℕ) → verdict p columns rows j ≡ Refused n place → (1 ≤ n) × (n < 7) × (place ≤ 8192)
-refusal-small p columns rows j n place e = subst (Small 8192) e (small-verdict p columns rows j)

@@ -1,14 +1,25 @@
 // What a row call answers for a pen and a path of bytes.
 use checks::Answer;
+use limits::Verdict;
 use pen::Pen;
 ghost use mathlib.Core.Path.{_≡_};
 ghost use Prim.Native.Nat.{_*_, _%_, _≤_};
 ghost use mathlib.Core.Bool.{_&&_};
 ghost use lib.Dec.{leb, eqb};
 ghost use lib.ListN.{length};
+ghost use Rattle.limits.specs.Sizes.{entriesMax};
+ghost use Rattle.limits.specs.Refusal.{path, unless};
 ghost use Rattle.wire.specs.Read.{entriesOf};
+ghost use Rattle.checks.specs.Answer.{answerOf};
 ghost use Rattle.host.specs.Host.{coded};
-ghost use Rattle.host.specs.Call.{Fit, written, runsCall, packedCall, entriesCall, bytesCall};
+ghost use Rattle.host.specs.Call.{Fit, written, runsWith, packedWith, entriesVerdict, entriesCall, bytesCall};
+
+// How many entries a short path has at most, and how many bytes; how many bytes the longest has.
+const SHORT: usize = 64;
+
+const SHORT_BYTES: usize = 4 * SHORT;
+
+const BYTES_MAX: usize = 4 * limits::ENTRIES_MAX;
 
 // What is asked for: a row of a raster for a pen, as runs or packed.
 pub struct Call {
@@ -22,9 +33,17 @@ pub struct Call {
 // The three numbers in one. A refusal without a place is its own number.
 fn code(a: Answer) -> u64
     requires { ⌜ Fit a ⌝ }
-    ensures { λ r. ⌜ r ≡ coded (a .refusal) (a .place) (a .count) ⌝ }
+    ensures { λ r. ⌜ r ≡ coded a ⌝ }
 {
     a.refusal + 256 * a.place + 4294967296 * a.count
+}
+
+// What a call answers that goes no further than this check.
+pub fn refused(v: Verdict) -> u64
+    requires { ⌜ Fit (answerOf v) ⌝ }
+    ensures { λ r. ⌜ r ≡ coded (answerOf v) ⌝ }
+{
+    code(checks::report(v))
 }
 
 // The runs of a list go to the host's bytes, if it has room for them. A refused row has none.
@@ -33,32 +52,33 @@ fn write(a: Answer, list: &[u16], runs: &mut [u8]) -> u64
     ensures { λ r. ⌜ record { answer = r; bytes = now (runs .exit) } ≡ written a (now (list .entry)) (now (runs .entry)) ⌝ }
 {
     let count = a.count as usize;
-    if runs.len() / 4 < count {
-        return 7;
-    }
+    let room = checks::room_check(count, runs.len() / 4);
+    let Verdict::Passed = room else {
+        return refused(room);
+    };
     wire::encode(list, 2 * count, runs);
     code(a)
 }
 
-// A row has at most 8192 runs, so a list of that many has room enough, and what is left to compare
+// A row has at most 8,192 runs, so a list of that many has room enough, and what is left to compare
 // is the host's own room.
 fn many_runs(call: Call, path: &[i32], runs: &mut [u8]) -> u64
-    ensures { λ r. ⌜ record { answer = r; bytes = now (runs .exit) } ≡ runsCall call (now (path .entry)) (now (runs .entry)) ⌝ }
+    ensures { λ r. ⌜ record { answer = r; bytes = now (runs .exit) } ≡ runsWith call (entriesVerdict call (now (path .entry))) (now (path .entry)) (now (runs .entry)) ⌝ }
 {
-    let mut list: [u16; 16384] = [0; 16384];
+    let mut list: [u16; limits::RASTER_MAX] = [0; limits::RASTER_MAX];
     let a = row::runs_for(call.pen, path, call.columns, call.rows, call.row, &mut list);
     write(a, &list, runs)
 }
 
 // A path of 32 points has at most 31 segments and so no more runs: a short list serves it, and if
-// it did not, the long one would. To clear a list for 8192 would cost more than most rows do.
+// it did not, the long one would. To clear a list for 8,192 would cost more than most rows do.
 fn entries_runs(call: Call, path: &[i32], runs: &mut [u8]) -> u64
-    ensures { λ r. ⌜ record { answer = r; bytes = now (runs .exit) } ≡ runsCall call (now (path .entry)) (now (runs .entry)) ⌝ }
+    ensures { λ r. ⌜ record { answer = r; bytes = now (runs .exit) } ≡ runsWith call (entriesVerdict call (now (path .entry))) (now (path .entry)) (now (runs .entry)) ⌝ }
 {
-    if path.len() <= 64 {
-        let mut list: [u16; 64] = [0; 64];
+    if path.len() <= SHORT {
+        let mut list: [u16; SHORT] = [0; SHORT];
         let a = row::runs_for(call.pen, path, call.columns, call.rows, call.row, &mut list);
-        if a.refusal != 7 {
+        if a.refusal != limits::NO_ROOM {
             return write(a, &list, runs);
         }
     }
@@ -66,7 +86,7 @@ fn entries_runs(call: Call, path: &[i32], runs: &mut [u8]) -> u64
 }
 
 fn entries_packed(call: Call, path: &[i32], bytes: &mut [u8]) -> u64
-    ensures { λ r. ⌜ record { answer = r; bytes = now (bytes .exit) } ≡ packedCall call (now (path .entry)) (now (bytes .entry)) ⌝ }
+    ensures { λ r. ⌜ record { answer = r; bytes = now (bytes .exit) } ≡ packedWith call (entriesVerdict call (now (path .entry))) (now (path .entry)) (now (bytes .entry)) ⌝ }
 {
     code(packed::packed_for(call.pen, path, call.columns, call.rows, call.row, bytes))
 }
@@ -95,32 +115,42 @@ fn short(call: Call, path: &[u8], bytes: &mut [u8]) -> u64
     requires { ⌜ length (now path) ≤ 256 ⌝ }
     ensures { λ r. ⌜ record { answer = r; bytes = now (bytes .exit) } ≡ entriesCall call (entriesOf (now (path .entry))) (now (bytes .entry)) ⌝ }
 {
-    let mut entries: [i32; 64] = [0; 64];
+    let mut entries: [i32; SHORT] = [0; SHORT];
     decoded(call, path, &mut entries, bytes)
 }
 
 fn long(call: Call, path: &[u8], bytes: &mut [u8]) -> u64
-    requires { ⌜ length (now path) ≤ 32768 ⌝ }
+    requires { ⌜ length (now path) ≤ 4 * entriesMax ⌝ }
     ensures { λ r. ⌜ record { answer = r; bytes = now (bytes .exit) } ≡ entriesCall call (entriesOf (now (path .entry))) (now (bytes .entry)) ⌝ }
 {
-    let mut entries: [i32; 8192] = [0; 8192];
+    let mut entries: [i32; limits::ENTRIES_MAX] = [0; limits::ENTRIES_MAX];
     decoded(call, path, &mut entries, bytes)
 }
 
 // Whether so many bytes can be a path: fours, and no more than a path may have.
 fn is_path(length: usize) -> bool
-    ensures { λ r. ⌜ r ≡ (eqb (length % 4) 0 && leb length 32768) ⌝ }
+    ensures { λ r. ⌜ r ≡ (eqb (length % 4) 0 && leb length (4 * entriesMax)) ⌝ }
 {
-    length % 4 == 0 && length <= 32768
+    length % 4 == 0 && length <= BYTES_MAX
+}
+
+fn bytes_check(length: usize) -> Verdict
+    ensures { λ r. ⌜ r ≡ unless (eqb (length % 4) 0 && leb length (4 * entriesMax)) path ⌝ }
+{
+    if is_path(length) {
+        return Verdict::Passed;
+    }
+    Verdict::Refused(limits::BAD_PATH, 0)
 }
 
 pub fn of_bytes(call: Call, path: &[u8], bytes: &mut [u8]) -> u64
     ensures { λ r. ⌜ record { answer = r; bytes = now (bytes .exit) } ≡ bytesCall call (now (path .entry)) (now (bytes .entry)) ⌝ }
 {
-    if !is_path(path.len()) {
-        return 2;
-    }
-    if path.len() <= 256 {
+    let of_bytes = bytes_check(path.len());
+    let Verdict::Passed = of_bytes else {
+        return refused(of_bytes);
+    };
+    if path.len() <= SHORT_BYTES {
         return short(call, path, bytes);
     }
     long(call, path, bytes)

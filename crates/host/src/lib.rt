@@ -8,6 +8,8 @@ ghost use Rattle.host.specs.Host.{hostRow, hostPackedRow};
 mod answer;
 
 use crate::answer::Call;
+use limits::Verdict;
+use setting::Checked;
 
 // The black runs of a row, four bytes each: left and right column, lowest byte first.
 #[no_mangle]
@@ -23,10 +25,10 @@ pub extern "C" fn zimarolfo_row(
 ) -> u64
     ensures { λ r. ⌜ record { answer = r; bytes = now (runs .exit) } ≡ hostRow (record { w = w; p = p; q = q }) (now (path .entry)) columns rows row (now (runs .entry)) ⌝ }
 {
-    let built = pen::build(w, p, q);
-    if built.refusal != 0 {
-        return 1;
-    }
+    let Checked::Taken(s) = setting::check(w, p, q) else {
+        return answer::refused(Verdict::Refused(limits::BAD_SETTING, 0));
+    };
+    let built = pen::build(s.w, s.p, s.q);
     let pen = built.pen;
     let call = Call {
         pen,
@@ -50,12 +52,13 @@ pub extern "C" fn zimarolfo_packed_row(
     row: u64,
     bytes: &mut [u8],
 ) -> u64
-    ensures { λ r. ⌜ record { answer = r; bytes = now (bytes .exit) } ≡ hostPackedRow (record { w = w; p = p; q = q }) (now (path .entry)) columns rows row (now (bytes .entry)) ⌝ }
+    ensures { λ r. ⌜ record { answer = r; bytes = now (bytes .exit) }
+        ≡ hostPackedRow (record { w = w; p = p; q = q }) (now (path .entry)) columns rows row (now (bytes .entry)) ⌝ }
 {
-    let built = pen::build(w, p, q);
-    if built.refusal != 0 {
-        return 1;
-    }
+    let Checked::Taken(s) = setting::check(w, p, q) else {
+        return answer::refused(Verdict::Refused(limits::BAD_SETTING, 0));
+    };
+    let built = pen::build(s.w, s.p, s.q);
     let pen = built.pen;
     let call = Call {
         pen,

@@ -2,19 +2,18 @@
 use Prim.Native.Nat.{ℕ, zero, suc, _+_, _*_, _/_}
 use mathlib.Core.Bool.{Bool, cond, _&&_}
 use mathlib.Core.List.{List, [], _∷_, _++_}
-use lib.Dec.{leb, ltb}
+use lib.Dec.{ltb}
 use lib.ListN.{length, drop}
 use lib.IntN.{ℤ, pos}
 use Rattle.plane.specs.Point.{Pt}
-use Rattle.setting.specs.Refusal.{number, room}
-use Rattle.checks.specs.declared.Verdict.the-variants.{Passed, Refused}
-use Rattle.checks.specs.Checks.{verdict}
-use Rattle.checks.specs.Answer.{Result, refusal, success}
+use Rattle.limits.specs.declared.Verdict.{Verdict}
+use Rattle.limits.specs.declared.Verdict.the-variants.{Passed}
+use Rattle.checks.specs.Checks.{callVerdict}
+use Rattle.checks.specs.Answer.{Result, Offer, given}
 use Rattle.stroke.specs.Sweep.{pathPoints}
 use Rattle.stroke.specs.Runs.{blackAt}
 use Rattle.aperture.specs.declared.Table.{Table}
-use Rattle.aperture.specs.declared.Looked.the-variants as looked·
-use Rattle.aperture.specs.Table.{looked, lookedNumber, cornersAt}
+use Rattle.aperture.specs.Table.{looked, lookedVerdict, heldCorners}
 
 -- "the leftmost pixel in the highest bit, black is 1, spare bits are 0": the byte of the columns from i on, k bits of it, after the bits in acc
 unfoldable pub bitsFrom : (ℕ → Bool) → ℕ → ℕ → ℕ → ℕ
@@ -34,16 +33,26 @@ packedLength columns = (columns + 7) / 8
 abbrev pub packed : (ℕ → Bool) → ℕ → List ℕ
 packed f columns = bytesFrom (λ x. ltb x columns && f x) 0 (packedLength columns)
 
--- 7: "a packed row longer than its buffer"; it "leaves the rest of its buffer"
-abbrev pub packedResult : (ℕ → Bool) → ℕ → List ℕ → Result
-packedResult f columns b =
-    cond (leb (packedLength columns) (length b)) (success (packedLength columns) (packed f columns ++ drop (packedLength columns) b)) (refusal (number room) 0 b)
+-- a packed row at the start of a buffer: it "leaves the rest of its buffer"
+abbrev pub packedAtop : (ℕ → Bool) → ℕ → List ℕ → List ℕ
+packedAtop f columns b = packed f columns ++ drop (packedLength columns) b
 
--- the packed row for the corners of a pen
-unfoldable pub packResult : List Pt → List ℤ → ℕ → ℕ → ℕ → List ℕ → Result
-packResult cs path columns rows j b =
-    elim (verdict path columns rows j) [ Passed ↦ packedResult (λ x. blackAt cs (pathPoints path) (pos j) (pos x)) columns b | Refused n place ↦ refusal n place b ]
+-- the same of the columns that a path blackens in row j, for the corners of a pen
+abbrev pub packedOver : List Pt → List ℤ → ℕ → ℕ → List ℕ → List ℕ
+packedOver cs path columns j b = packedAtop (λ x. blackAt cs (pathPoints path) (pos j) (pos x)) columns b
 
--- the same for an aperture: "Row calls check in the order 6, 2, 4, 5, 3, 7"
-unfoldable pub packedCall : Table → ℕ → List ℤ → ℕ → ℕ → ℕ → List ℕ → Result
-packedCall t n path columns rows j b = elim (looked t n) [ looked·.At i ↦ packResult (cornersAt t i) path columns rows j b | looked·.Refused ↦ refusal (lookedNumber (looked t n)) 0 b ]
+-- what a call offers: 7 is "a packed row longer than its buffer"
+abbrev pub packedOffer : List Pt → List ℤ → ℕ → ℕ → List ℕ → Offer ℕ
+packedOffer cs path columns j b = record { count = packedLength columns; space = length b; after = packedOver cs path columns j b; before = b }
+
+-- the packed row of a path for the corners of a pen, where the checks answer v
+abbrev pub packedGiven : Verdict → List Pt → List ℤ → ℕ → ℕ → List ℕ → Result ℕ
+packedGiven v cs path columns j b = given v (packedOffer cs path columns j b)
+
+-- the call for a pen that is handed over
+unfoldable pub packResult : List Pt → List ℤ → ℕ → ℕ → ℕ → List ℕ → Result ℕ
+packResult cs path columns rows j b = packedGiven (callVerdict Passed path columns rows j) cs path columns j b
+
+-- the call for an aperture: "Row calls check in the order 6, 2, 4, 5, 3, 7"
+unfoldable pub packedCall : Table → ℕ → List ℤ → ℕ → ℕ → ℕ → List ℕ → Result ℕ
+packedCall t n path columns rows j b = packedGiven (callVerdict (lookedVerdict (looked t n)) path columns rows j) (heldCorners t n) path columns j b

@@ -7,20 +7,15 @@ use crate::bytes::pack_far;
 use crate::bytes::pack_none;
 use crate::bytes::pack_span;
 use checks::Answer;
-use checks::Verdict;
 use cuts::Touch;
+use limits::Verdict;
 ghost use mathlib.Core.Path.{_≡_};
-ghost use mathlib.Core.List.{_++_};
-ghost use Prim.Native.Nat.{_≤_, _<_};
-ghost use lib.IntN.{pos};
-ghost use lib.ListN.{length, drop};
+ghost use Prim.Native.Nat.{_≤_};
+ghost use lib.ListN.{length};
+ghost use Rattle.limits.specs.Sizes.{Drawable};
+ghost use Rattle.limits.specs.declared.Verdict.the-variants.{Passed};
 ghost use Rattle.plane.specs.Point.{corners};
-ghost use Rattle.stroke.specs.Runs.{blackAt};
-ghost use Rattle.checks.specs.declared.Verdict.the-variants.{Passed};
-ghost use Rattle.checks.specs.Checks.{coordinateVerdict};
-ghost use Rattle.stroke.specs.Sweep.{pathPoints};
-ghost use Rattle.packed.specs.Packed.{packed, packedLength, packedResult};
-ghost use Rattle.cuts.specs.Cuts.{cuts};
+ghost use Rattle.packed.specs.Packed.{packedLength, packedOver, packedGiven};
 
 fn pack_several<'a>(
     bytes: &mut [u8],
@@ -28,15 +23,16 @@ fn pack_several<'a>(
     ys: &'a [i8],
     count: usize,
     path: &[i32],
-    wide: usize,
+    columns: usize,
     row: u64,
 )
-    requires { ⌜ packedLength wide ≤ length (now bytes) ⌝ ∗ ⌜ coordinateVerdict (now path) ≡ Passed ⌝ ∗ ⌜ (1 ≤ wide) × (wide ≤ 16384) ⌝ ∗ ⌜ row ≤ 16383 ⌝ }
-    ensures { λ r. ⌜ now (bytes .exit) ≡ packed (λ x. blackAt (corners count (now (xs .entry)) (now (ys .entry))) (pathPoints (now (path .entry))) (pos row) (pos x)) wide ++ drop (packedLength wide) (now (bytes .entry)) ⌝ }
+    requires room { ⌜ packedLength columns ≤ length (now bytes) ⌝ }
+    requires drawable { ⌜ Drawable (now path) columns row ⌝ }
+    ensures { λ r. ⌜ now (bytes .exit) ≡ packedOver (corners count (now (xs .entry)) (now (ys .entry))) (now (path .entry)) columns row (now (bytes .entry)) ⌝ }
 {
-    let mut far: [u16; 16384] = [0; 16384];
-    let b = cuts::put_together(&mut far, xs, ys, count, path, wide, row);
-    pack_far(bytes, wide, &far, b.first, b.end);
+    let mut far: [u16; limits::RASTER_MAX] = [0; limits::RASTER_MAX];
+    let b = cuts::put_together(&mut far, xs, ys, count, path, columns, row);
+    pack_far(bytes, columns, &far, b.first, b.end);
 }
 
 // The packed row, cut to the raster.
@@ -46,16 +42,17 @@ fn pack_row<'a>(
     ys: &'a [i8],
     count: usize,
     path: &[i32],
-    wide: usize,
+    columns: usize,
     row: u64,
 )
-    requires { ⌜ packedLength wide ≤ length (now bytes) ⌝ ∗ ⌜ coordinateVerdict (now path) ≡ Passed ⌝ ∗ ⌜ (1 ≤ wide) × (wide ≤ 16384) ⌝ ∗ ⌜ row ≤ 16383 ⌝ }
-    ensures { λ r. ⌜ now (bytes .exit) ≡ packed (λ x. blackAt (corners count (now (xs .entry)) (now (ys .entry))) (pathPoints (now (path .entry))) (pos row) (pos x)) wide ++ drop (packedLength wide) (now (bytes .entry)) ⌝ }
+    requires room { ⌜ packedLength columns ≤ length (now bytes) ⌝ }
+    requires drawable { ⌜ Drawable (now path) columns row ⌝ }
+    ensures { λ r. ⌜ now (bytes .exit) ≡ packedOver (corners count (now (xs .entry)) (now (ys .entry))) (now (path .entry)) columns row (now (bytes .entry)) ⌝ }
 {
-    match cuts::touching(xs, ys, count, path, wide, row) {
-        Touch::Untouched => pack_none(bytes, wide),
-        Touch::One(left, right) => pack_span(bytes, wide, left, right),
-        Touch::Several => pack_several(bytes, xs, ys, count, path, wide, row),
+    match cuts::touching(xs, ys, count, path, columns, row) {
+        Touch::Untouched => pack_none(bytes, columns),
+        Touch::One(left, right) => pack_span(bytes, columns, left, right),
+        Touch::Several => pack_several(bytes, xs, ys, count, path, columns, row),
     }
 }
 
@@ -66,17 +63,18 @@ pub fn draw_packed<'a>(
     ys: &'a [i8],
     count: usize,
     path: &[i32],
-    wide: usize,
+    columns: usize,
     row: u64,
 ) -> Answer
-    requires { ⌜ coordinateVerdict (now path) ≡ Passed ⌝ ∗ ⌜ (1 ≤ wide) × (wide ≤ 16384) ⌝ ∗ ⌜ row ≤ 16383 ⌝ }
-    ensures { λ r. ⌜ record { answer = r; list = now (bytes .exit) } ≡ packedResult (λ x. blackAt (corners count (now (xs .entry)) (now (ys .entry))) (pathPoints (now (path .entry))) (pos row) (pos x)) wide (now (bytes .entry)) ⌝ }
+    requires { ⌜ Drawable (now path) columns row ⌝ }
+    ensures { λ r. ⌜ record { answer = r; list = now (bytes .exit) }
+        ≡ packedGiven Passed (corners count (now (xs .entry)) (now (ys .entry))) (now (path .entry)) columns row (now (bytes .entry)) ⌝ }
 {
-    let length = length_of(wide);
+    let length = length_of(columns);
     let room = checks::room_check(length, bytes.len());
     let Verdict::Passed = room else {
         return checks::report(room);
     };
-    pack_row(bytes, xs, ys, count, path, wide, row);
+    pack_row(bytes, xs, ys, count, path, columns, row);
     checks::done(length)
 }

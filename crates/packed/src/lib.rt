@@ -5,7 +5,7 @@
 use aperture::Looked;
 use aperture::Table;
 use checks::Answer;
-use checks::Verdict;
+use limits::Verdict;
 use pen::Pen;
 ghost use mathlib.Core.Path.{_≡_};
 ghost use Rattle.pen.specs.Answer.{penCorners};
@@ -28,7 +28,7 @@ pub fn packed_row(
     ensures { λ r. ⌜ record { answer = r; list = now (bytes .exit) } ≡ packedCall table number (now (path .entry)) columns rows row (now (bytes .entry)) ⌝ }
 {
     let Looked::At(i) = aperture::look_up(table, number) else {
-        return checks::report(Verdict::Refused(6, 0));
+        return checks::report(Verdict::Refused(limits::NO_APERTURE, 0));
     };
     let place = table.places[i];
     packed_for(place.pen, path, columns, rows, row, bytes)

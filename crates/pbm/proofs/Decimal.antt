@@ -1,21 +1,23 @@
 -- What `io::decimal` writes, the fewest digits that hold a number, is its decimal form.
-use Prim.Native.Nat.{ℕ, zero, suc, _+_, _*_, _-_, _/_, _%_, _^_, _≤_, _<_}
+use Prim.Native.Nat.{ℕ, zero, suc, _-_, _/_, _%_, _^_, _≤_, _<_}
 use native.Mathlib.Omega.{arith}
 use native.Mathlib.Nat.{mod-eq-of-lt, mod-lt, div-lt-iff-lt-mul, le-div-iff-mul-le, div-lt-self, one-le-pow, pow-le-pow-right}
-use mathlib.Core.Path.{_≡_, refl, sym, ap, _∙_}
-use mathlib.Core.Bool.{Bool, true, false, cond}
+use mathlib.Core.Path.{_≡_, refl, ap, _∙_}
+use mathlib.Core.Bool.{Bool, true, false}
 use mathlib.Core.List.{List, [], _∷_, _++_}
 use lib.Dec.{ltb, leb}
 use lib.ListN.{length, take, length-append}
 use Rattle.io.specs.Counts.{Counts}
 use borrow.Author.Tests.{lt-ltb, le-ltb, ltb-true, ltb-false, leb-true, leb-false}
 use Rattle.io.specs.Digits.{glyph, digits, Fewest}
-use Rattle.integers.proofs.Tests.{and-both}
-use Rattle.pbm.specs.Pbm.{isSize, digit, lastDigits, decimal}
+use Rattle.limits.specs.Sizes.{isSize}
+use Rattle.limits.proofs.Sizes.{size-iff}
+use Rattle.pbm.specs.Pbm.{digit, lastDigits, decimal}
 
 glyph-digit : (d : ℕ) → d < 10 → glyph d ≡ digit d
 glyph-digit d h = rw (lt-ltb d 10 h)
 
+-- a number below 10 is one digit, and any other has one digit more than its tenth
 one : (f n : ℕ) → n < 10 → lastDigits (suc f) n ≡ digit n ∷ []
 unfolding lastDigits
 one f n h = rw (lt-ltb n 10 h, lastDigits)
@@ -24,6 +26,7 @@ more : (f n : ℕ) → 10 ≤ n → lastDigits (suc f) n ≡ lastDigits f (n / 1
 unfolding lastDigits
 more f n h = rw (le-ltb n 10 h, lastDigits)
 
+-- the digits that `io::decimal` writes, k + 1 of them, where neither fewer would hold the number nor more be needed
 last-digits : (k n f : ℕ) → n < 10 ^ suc k → (0 < k → 10 ^ k ≤ n) → n < f → digits 10 (suc k) n ≡ lastDigits f n
 last-digits k n zero h l b = absurd (omega arith)
 last-digits zero n (suc f) h l b =
@@ -33,7 +36,10 @@ last-digits (suc k) n (suc f) h l b =
     let big : 10 ^ suc k ≤ n = l (omega arith) in
     let p : 1 ≤ 10 ^ k = one-le-pow k 10 (omega arith) in
     let s : 10 ≤ n = omega arith in
-    let e = last-digits k (n / 10) f (div-lt-iff-lt-mul {k = 10} (omega arith) .1 (omega arith)) (λ _. le-div-iff-mul-le {k = 10} (omega arith) .1 (omega arith)) (omega (arith, div-lt-self {n = n} {k = 10} (omega arith) (omega arith))) in
+    let most : n / 10 < 10 ^ suc k = div-lt-iff-lt-mul {k = 10} (omega arith) .1 (omega arith) in
+    let least : 10 ^ k ≤ n / 10 = le-div-iff-mul-le {k = 10} (omega arith) .1 (omega arith) in
+    let less : n / 10 < f = omega (arith, div-lt-self {n = n} {k = 10} (omega arith) (omega arith)) in
+    let e = last-digits k (n / 10) f most (λ _. least) less in
     rw (glyph-digit (n % 10) (mod-lt n (omega arith)), more f n s, e)
 
 pub is-decimal : (n r : ℕ) → Fewest 10 1 n r → digits 10 r n ≡ decimal n
@@ -61,7 +67,7 @@ size-short n r h f = go (leb r 5) refl
         let k : 5 < r = leb-false r 5 e in
         let l : 5 ≤ r - 1 = omega arith in
         let p : 10 ^ 5 ≤ 10 ^ (r - 1) = pow-le-pow-right {n = 10} (omega arith) l in
-        let s : n ≤ 16384 = leb-true n 16384 (and-both (leb 1 n) (leb n 16384) h .1) in
+        let s : n ≤ 16384 = size-iff n .0 h .few in
         absurd (omega (arith, f .2 (omega arith)))
 
 -- so it has in the definition
@@ -80,6 +86,6 @@ few (suc k) n (suc f) h = go (ltb n 10) refl (few k (n / 10) f (div-lt-iff-lt-mu
 
 pub size-few : (n : ℕ) → isSize n ≡ true → length (decimal n) ≤ 5
 size-few n h =
-    let s : n ≤ 16384 = leb-true n 16384 (and-both (leb 1 n) (leb n 16384) h .1) in
+    let s : n ≤ 16384 = size-iff n .0 h .few in
     let b : n < 100000 = omega arith in
     few 4 n (suc n) b

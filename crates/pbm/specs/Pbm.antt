@@ -4,10 +4,7 @@ use mathlib.Core.Bool.{Bool, true, false, cond, _&&_}
 use mathlib.Core.List.{List, [], _∷_, _++_}
 use lib.Dec.{leb, ltb}
 use lib.ListN.{length, drop}
-
--- "Raster: columns and rows each 1 to 16,384"
-abbrev pub isSize : ℕ → Bool
-isSize n = leb 1 n && leb n 16384
+use Rattle.limits.specs.Sizes.{isSize}
 
 -- the ASCII code of a digit below 10
 abbrev pub digit : ℕ → ℕ
@@ -22,9 +19,9 @@ lastDigits (suc k) n = elim (ltb n 10) [ true ↦ digit n ∷ [] | false ↦ las
 abbrev pub decimal : ℕ → List ℕ
 decimal n = lastDigits (suc n) n
 
--- "the characters P4, newline, 5, space, 3, newline": here with the digits of any two sizes
+-- "the characters P4, newline, 5, space, 3, newline": here with any digits of the columns and of the rows
 abbrev pub headed : List ℕ → List ℕ → List ℕ
-headed wide high = (80 ∷ 52 ∷ 10 ∷ []) ++ wide ++ (32 ∷ []) ++ high ++ (10 ∷ [])
+headed columns rows = (80 ∷ 52 ∷ 10 ∷ []) ++ columns ++ (32 ∷ []) ++ rows ++ (10 ∷ [])
 
 -- "Sizes are decimal without leading zeros, columns first"
 abbrev pub header : ℕ → ℕ → List ℕ

@@ -1,16 +1,9 @@
 // The raw PBM form of document 01: the header that every film starts with.
 ghost use mathlib.Core.Path.{_≡_};
-ghost use mathlib.Core.Bool.{true};
 ghost use Prim.Native.Nat.{_+_, _≤_};
 ghost use lib.ListN.{length};
 ghost use lib.Seq.{paste};
-ghost use Rattle.pbm.specs.Pbm.{isSize, headed, started, headerPut};
-
-fn is_size(n: u64) -> bool
-    ensures { λ r. ⌜ r ≡ isSize n ⌝ }
-{
-    1 <= n && n <= 16384
-}
+ghost use Rattle.pbm.specs.Pbm.{headed, started, headerPut};
 
 // Stores the bytes of src from index at on.
 fn put(out: &mut [u8], at: usize, src: &[u8])
@@ -24,17 +17,17 @@ fn put(out: &mut [u8], at: usize, src: &[u8])
     }
 }
 
-// Puts the header with these digits of the sizes at the start of out.
-fn put_digits(out: &mut [u8], wide: &[u8], high: &[u8])
-    requires { ⌜ length (now wide) + length (now high) + 5 ≤ length (now out) ⌝ }
-    ensures { λ _. ⌜ now (out .exit) ≡ started (headed (now (wide .entry)) (now (high .entry))) (now (out .entry)) ⌝ }
+// Puts the header with these digits of the columns and of the rows at the start of out.
+fn put_digits(out: &mut [u8], columns: &[u8], rows: &[u8])
+    requires { ⌜ length (now columns) + length (now rows) + 5 ≤ length (now out) ⌝ }
+    ensures { λ _. ⌜ now (out .exit) ≡ started (headed (now (columns .entry)) (now (rows .entry))) (now (out .entry)) ⌝ }
 {
-    let n = wide.len();
-    let m = high.len();
+    let n = columns.len();
+    let m = rows.len();
     put(out, 0, b"P4\n");
-    put(out, 3, wide);
+    put(out, 3, columns);
     put(out, n + 3, b" ");
-    put(out, n + 4, high);
+    put(out, n + 4, rows);
     put(out, n + m + 4, b"\n");
 }
 
@@ -43,16 +36,16 @@ fn put_digits(out: &mut [u8], wide: &[u8], high: &[u8])
 pub fn put_header(out: &mut [u8], columns: u64, rows: u64) -> usize
     ensures { λ r. ⌜ record { count = r; buffer = now (out .exit) } ≡ headerPut columns rows (now (out .entry)) ⌝ }
 {
-    if !is_size(columns) || !is_size(rows) {
+    if !limits::is_size(columns) || !limits::is_size(rows) {
         return 0;
     }
-    let mut wide = [0u8; 20];
-    let n = io::decimal(columns, &mut wide);
-    let mut high = [0u8; 20];
-    let m = io::decimal(rows, &mut high);
+    let mut columns_digits = [0u8; 20];
+    let n = io::decimal(columns, &mut columns_digits);
+    let mut rows_digits = [0u8; 20];
+    let m = io::decimal(rows, &mut rows_digits);
     if out.len() < n + m + 5 {
         return 0;
     }
-    put_digits(out, &wide[..n], &high[..m]);
+    put_digits(out, &columns_digits[..n], &rows_digits[..m]);
     n + m + 5
 }

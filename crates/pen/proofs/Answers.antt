@@ -2,6 +2,7 @@
 use mathlib.Core.Path.{_≡_, sym, ap}
 use mathlib.Core.Bool.{true, false}
 use mathlib.Core.List.{[]}
+use Rattle.limits.specs.Refusal.{number, setting}
 use Rattle.setting.specs.declared.Setting.{Setting}
 use Rattle.setting.specs.declared.Checked.{Checked}
 use Rattle.setting.specs.Setting.{taken}
@@ -19,6 +20,6 @@ pub pen-built : (σ : Setting) → taken σ ≡ true → built σ ≡ record { r
 unfolding built answer
 pen-built σ e = sym (ap answer (accepted σ e))
 
-pub none-built : (σ : Setting) → taken σ ≡ false → built σ ≡ record { refusal = 1; pen = penOf [] }
+pub none-built : (σ : Setting) → taken σ ≡ false → built σ ≡ record { refusal = number setting; pen = penOf [] }
 unfolding built answer
 none-built σ e = sym (ap answer (refused σ e))

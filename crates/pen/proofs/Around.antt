@@ -14,7 +14,7 @@ use Rattle.pen.specs.Polygon.{flipped, turned, upAndBack}
 use Rattle.plane.specs.Polygon.{edge}
 use Rattle.pen.proofs.Once.{Linked, linked-map}
 use Rattle.pen.proofs.Images.{onwards, turned-twice}
-use Rattle.pen.proofs.Fits.{Rises, Steps, IsQuarter, Fits, fits-turn, spread, still, slant-inner, slant-thick, upright-inner, upright-thick, level-inner, level-thick}
+use Rattle.pen.proofs.Fits.{Rises, Steps, IsQuarter, Fits, fits-turn, step-between, level-between, slant-inner, slant-thick, upright-inner, upright-thick, level-inner, level-thick}
 
 module _ (c : Pt) (q : List Pt) (Dx Dy : ℤ) (Q : IsQuarter c q Dx Dy) where
   abbrev Next : Pt → Pt → Type 0
@@ -23,8 +23,8 @@ module _ (c : Pt) (q : List Pt) (Dx Dy : ℤ) (Q : IsQuarter c q Dx Dy) where
   -- a slanted edge, and its mirror image in the x axis
   slant : (p r : Pt) → p ∈ c ∷ q → r ∈ c ∷ q → Rises (c ∷ q) p r → Fits (c ∷ q) (edge p r) × Fits (c ∷ q) (edge (flipped r) (flipped p))
   slant p r mp mr h =
-      let sx = spread (p .x) (r .x) (h .across) in
-      let sy = spread (p .y) (r .y) (h .up) in
+      let sx = step-between (p .x) (r .x) (h .across) in
+      let sy = step-between (p .y) (r .y) (h .up) in
       let t = slant-thick (p .x) (p .y) (r .x) (r .y) (Q .low p mp .right₀) (Q .low r mr .below) (h .across) (h .up) in (
         record { A = r .y -ℤ p .y; B = r .x -ℤ p .x; a-in = sy .0; b-in = sx .1; inner = λ z m. slant-inner (p .x) (p .y) (r .x) (r .y) (z .x) (z .y) (h .inner z m) .0; thick = t .0 },
         record { A = r .y -ℤ p .y; B = r .x -ℤ p .x; a-in = sy .2; b-in = sx .0; inner = λ z m. slant-inner (p .x) (p .y) (r .x) (r .y) (z .x) (z .y) (h .inner z m) .1; thick = t .1 },
@@ -45,8 +45,8 @@ module _ (c : Pt) (q : List Pt) (Dx Dy : ℤ) (Q : IsQuarter c q Dx Dy) where
       go (inr h) = inr (record {
         A = negℤ (p .y) -ℤ p .y;
         B = pos 0;
-        a-in = spread (p .y) (negℤ (p .y)) (rises (p .y) h) .0;
-        b-in = still (p .x);
+        a-in = step-between (p .y) (negℤ (p .y)) (rises (p .y) h) .0;
+        b-in = level-between (p .x);
         inner = λ z n. upright-inner (p .x) (p .y) (z .x) (z .y) h (subst (λ w. z .x ≼ w) (sym e) (Q .low z n .wide));
         thick = upright-thick (p .x) (p .y) h (subst (λ w. pos 1 ≼ w) (sym e) (Q .wide₁));
       })
@@ -66,8 +66,8 @@ module _ (c : Pt) (q : List Pt) (Dx Dy : ℤ) (Q : IsQuarter c q Dx Dy) where
       go (inr h) = inr (record {
         A = pos 0;
         B = c .x -ℤ negℤ (c .x);
-        a-in = still (negℤ (c .y));
-        b-in = spread (negℤ (c .x)) (c .x) (wide (c .x) h) .0;
+        a-in = level-between (negℤ (c .y));
+        b-in = step-between (negℤ (c .x)) (c .x) (wide (c .x) h) .0;
         inner = λ z n. level-inner (c .x) (c .y) (z .x) (z .y) h (subst (λ w. w ≼ z .y) (sym (Q .bottom)) (Q .low z n .deep));
         thick = level-thick (c .x) (c .y) Dy h (Q .high₁) (Q .bottom);
       })

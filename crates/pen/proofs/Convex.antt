@@ -7,7 +7,7 @@ use native.Mathlib.Omega.{arith}
 use Rattle.integers.specs.Count.{_∈_}
 use Rattle.quarter.specs.Cutting.{Corner}
 use Rattle.quarter.proofs.Chain.{Link, Chain, link}
-use Rattle.quarter.proofs.Ranges.{onward}
+use Rattle.quarter.proofs.Ranges.{link-onward}
 use Rattle.quarter.proofs.Slope.{slope-trans, slope-trans-le}
 
 -- P and Q stand one after the other
@@ -100,5 +100,5 @@ inside-all (link l u v r s) (there n) C (List·Memᴰ·tail m) = inside-all s n 
 
 -- the next corner is to the right and higher
 pub adjacent-on : {D k pu pv a b : ℕ} {P Q : Corner} {cs : List Corner} → Chain D k pu pv a b cs → Adjacent P Q cs → (P .x < Q .x) × (Q .y < P .y)
-adjacent-on (link l u v r (link l₁ u₁ v₁ r₁ s)) here = onward r₁
+adjacent-on (link l u v r (link l₁ u₁ v₁ r₁ s)) here = link-onward r₁
 adjacent-on (link l u v r s) (there n) = adjacent-on s n

@@ -63,11 +63,11 @@ fits-inner all e f z w m x y =
     (mul-bound (f .B) (negℤ (z .y)) (e .b) (w .y) (f .b-in .0) (f .b-in .1) (y .0) (y .1) .1) (f .inner z m)
 
 -- a step from c to d, back, and back between the mirror images
-pub spread : (c d : ℤ) → c ≺ d → Between (d -ℤ c) (d -ℤ c) × Between (d -ℤ c) (c -ℤ d) × Between (d -ℤ c) (negℤ c -ℤ negℤ d)
-spread = ring 2 _ (simp reify (omega arith))
+pub step-between : (c d : ℤ) → c ≺ d → Between (d -ℤ c) (d -ℤ c) × Between (d -ℤ c) (c -ℤ d) × Between (d -ℤ c) (negℤ c -ℤ negℤ d)
+step-between = ring 2 _ (simp reify (omega arith))
 
-pub still : (x : ℤ) → Between (pos 0) (x -ℤ x)
-still = ring 1 _ (λ ρ. simp (reify, ρ) (omega arith))
+pub level-between : (x : ℤ) → Between (pos 0) (x -ℤ x)
+level-between = ring 1 _ (λ ρ. simp (reify, ρ) (omega arith))
 
 -- a slanted edge from c to d, and its mirror image in the x axis: it bounds z by what is given, and the middle is inside
 pub slant-inner : (cx cy dx dy x y : ℤ) → (dy -ℤ cy) *ℤ x +ℤ (cx -ℤ dx) *ℤ y ≼ (dy -ℤ cy) *ℤ cx +ℤ (cx -ℤ dx) *ℤ cy →

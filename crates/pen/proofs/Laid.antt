@@ -10,12 +10,13 @@ use mathlib.Core.Bool.{Bool, true, false, cond}
 use Rattle.integers.specs.Count.{_∈_}
 use Rattle.integers.specs.Bound.{Abs}
 use Rattle.integers.proofs.Bound.{natAbs-neg}
+use Rattle.limits.specs.Sizes.{quarterMax, penMax}
 use Rattle.setting.specs.declared.Setting.{Setting}
 use Rattle.setting.specs.Setting.{Taken}
 use Rattle.quarter.specs.Cutting.{Corner, quarter}
 use Rattle.quarter.specs.Answer.{laid, across, upwards, quarterOf}
 use Rattle.quarter.proofs.Laid.{laid-corner, count-snoc, laid-long, laid-small}
-use Rattle.quarter.proofs.Ranges.{some}
+use Rattle.quarter.proofs.Ranges.{quarter-cons}
 use Rattle.quarter.proofs.Theorems.{quarter-few, quarter-box}
 use Rattle.pen.specs.declared.Pen.{Pen}
 use Rattle.plane.specs.Point.{Pt, pt, same, points, corners}
@@ -28,21 +29,21 @@ use Rattle.pen.proofs.Images.{map-mem}
 abbrev pub once : Pt → Pt → List Pt
 once a b = cond (same a b) [] (a ∷ [])
 
-pub pushed-pen : (cs : List Pt) (a b : Pt) → length cs < 132 → pushed (penOf cs) a b ≡ penOf (cs ++ once a b)
+pub pushed-pen : (cs : List Pt) (a b : Pt) → length cs < penMax → pushed (penOf cs) a b ≡ penOf (cs ++ once a b)
 pushed-pen cs a b h = go (same a b)
   where
     go : (t : Bool) →
-        cond t (penOf cs) (record { count = length cs + 1; x = set (laid 132 (map (λ z. z .x) cs)) (length cs) (a .x); y = set (laid 132 (map (λ z. z .y) cs)) (length cs) (a .y) })
+        cond t (penOf cs) (record { count = length cs + 1; x = set (laid penMax (map (λ z. z .x) cs)) (length cs) (a .x); y = set (laid penMax (map (λ z. z .y) cs)) (length cs) (a .y) })
         ≡ penOf (cs ++ cond t [] (a ∷ []))
     go true = ap penOf (sym (append-nil cs))
-    go false = rw (count-snoc cs a, laid-corner 132 (λ (z : Pt). z .x) cs a h, laid-corner 132 (λ (z : Pt). z .y) cs a h)
+    go false = rw (count-snoc cs a, laid-corner penMax (λ (z : Pt). z .x) cs a h, laid-corner penMax (λ (z : Pt). z .y) cs a h)
 
 -- the two cases of a corner more
-pub skipped : (p : Pen) (a b : Pt) → same a b ≡ true → p ≡ pushed p a b
-skipped p a b e = sym (ap (λ (t : Bool). cond t p (record { count = p .count + 1; x = set (p .x) (p .count) (a .x); y = set (p .y) (p .count) (a .y) })) e)
+pub pushed-skipped : (p : Pen) (a b : Pt) → same a b ≡ true → p ≡ pushed p a b
+pushed-skipped p a b e = sym (ap (λ (t : Bool). cond t p (record { count = p .count + 1; x = set (p .x) (p .count) (a .x); y = set (p .y) (p .count) (a .y) })) e)
 
-pub added : (p : Pen) (a b : Pt) → same a b ≡ false → record { count = p .count + 1; x = set (p .x) (p .count) (a .x); y = set (p .y) (p .count) (a .y) } ≡ pushed p a b
-added p a b e = sym (ap (λ (t : Bool). cond t p (record { count = p .count + 1; x = set (p .x) (p .count) (a .x); y = set (p .y) (p .count) (a .y) })) e)
+pub pushed-added : (p : Pen) (a b : Pt) → same a b ≡ false → record { count = p .count + 1; x = set (p .x) (p .count) (a .x); y = set (p .y) (p .count) (a .y) } ≡ pushed p a b
+pushed-added p a b e = sym (ap (λ (t : Bool). cond t p (record { count = p .count + 1; x = set (p .x) (p .count) (a .x); y = set (p .y) (p .count) (a .y) })) e)
 
 -- ---- reading the arrays back gives the points: of two numbers of each element, and so of the quarter's corners and of a list of points
 module _ {A : Type 0} (f g : A → ℤ) where
@@ -58,7 +59,7 @@ module _ {A : Type 0} (f g : A → ℤ) where
       front f = take-at (map f cs) (replicate (n - length (map f cs)) (pos 0)) (length cs) (length-map cs f)
 
 pub quarter-back : (cs : List Corner) → cornersOf (quarterOf cs) ≡ map upward cs
-quarter-back cs = corners-of across upwards 33 cs
+quarter-back cs = corners-of across upwards quarterMax cs
 
 pub corners-back : (n : ℕ) (cs : List Pt) → corners (length cs) (laid n (map (λ z. z .x) cs)) (laid n (map (λ z. z .y) cs)) ≡ cs
 corners-back n cs = corners-of (λ z. z .x) (λ z. z .y) n cs ∙ same-points cs
@@ -74,12 +75,12 @@ module _ (σ : Setting) (τ : Taken σ) where
 
   pub mirrorable : Mirrorable (quarterOf (quarter σ))
   mirrorable =
-      let few : length (quarter σ) ≤ 33 = quarter-few σ τ in
+      let few : length (quarter σ) ≤ quarterMax = quarter-few σ τ in
       record {
-        some = subst (λ (l : List Corner). 1 ≤ length l) (sym (some σ τ .cons)) (omega arith);
+        some = subst (λ (l : List Corner). 1 ≤ length l) (sym (quarter-cons σ τ .cons)) (omega arith);
         few = few;
-        x-long = laid-long 33 across (quarter σ) few;
-        y-long = laid-long 33 upwards (quarter σ) few;
-        x-small = λ i _. laid-small 32 33 (map across (quarter σ)) (coordinate-small across (λ c m. record { abs = quarter-box σ τ c m .0 })) i;
-        y-small = λ i _. laid-small 32 33 (map upwards (quarter σ)) (coordinate-small upwards (λ c m. record { abs = omega (arith, natAbs-neg (pos (c .y)), quarter-box σ τ c m .1) })) i;
+        x-long = laid-long quarterMax across (quarter σ) few;
+        y-long = laid-long quarterMax upwards (quarter σ) few;
+        x-small = λ i _. laid-small 32 quarterMax (map across (quarter σ)) (coordinate-small across (λ c m. record { abs = quarter-box σ τ c m .0 })) i;
+        y-small = λ i _. laid-small 32 quarterMax (map upwards (quarter σ)) (coordinate-small upwards (λ c m. record { abs = omega (arith, natAbs-neg (pos (c .y)), quarter-box σ τ c m .1) })) i;
       }

@@ -3,6 +3,7 @@
 --   Once, Images, Fits, Around, Whole  the whole polygon of a convex quarter satisfies the laws of a pen
 --   PenLaw                             so does the pen of a setting
 --   Laid, Walk, Opposites              for the code: arrays of points, what stands at each place of the walk around the polygon, and opposites as i8
+--   Mirroring                          the loop over that walk
 --   Answers                            what building answers, by the test of the setting's limits
 pub mod Convex
 pub mod Once
@@ -15,4 +16,5 @@ pub mod Theorems
 pub mod Laid
 pub mod Walk
 pub mod Opposites
+pub mod Mirroring
 pub mod Answers

@@ -7,17 +7,17 @@ use Rattle.integers.specs.Bound.{Abs}
 use Rattle.integers.proofs.Machine.{known, num, sub, sub-fits, bound}
 
 module _ {z : ℤ} (h : Abs z 32) where
-  pub itself : toZ w8 (ofZ w8 z) ≡ z
-  itself = known {w = w8} h tt .reads
+  pub i8-itself : toZ w8 (ofZ w8 z) ≡ z
+  i8-itself = known {w = w8} h tt .reads
 
-  pub opposite-fits : SFits w8 (pos 0 -ℤ toZ w8 (ofZ w8 z))
-  opposite-fits = sub-fits (num {w = w8} (pos 0) tt) (known {w = w8} h tt) tt
+  pub i8-opposite-fits : SFits w8 (pos 0 -ℤ toZ w8 (ofZ w8 z))
+  i8-opposite-fits = sub-fits (num {w = w8} (pos 0) tt) (known {w = w8} h tt) tt
 
-  pub opposite : toZ w8 (ofZ w8 (pos 0 -ℤ toZ w8 (ofZ w8 z))) ≡ negℤ z
-  opposite = sub (num {w = w8} (pos 0) tt) (known {w = w8} h tt) tt .reads ∙ +ℤ-idl (negℤ z)
+  pub i8-opposite : toZ w8 (ofZ w8 (pos 0 -ℤ toZ w8 (ofZ w8 z))) ≡ negℤ z
+  i8-opposite = sub (num {w = w8} (pos 0) tt) (known {w = w8} h tt) tt .reads ∙ +ℤ-idl (negℤ z)
 
-  pub small : Abs (toZ w8 (ofZ w8 z)) 32
-  small = bound (known {w = w8} h tt)
+  pub i8-small : Abs (toZ w8 (ofZ w8 z)) 32
+  i8-small = bound (known {w = w8} h tt)
 
-  pub small-opposite : Abs (toZ w8 (ofZ w8 (pos 0 -ℤ toZ w8 (ofZ w8 z)))) 32
-  small-opposite = bound (sub (num {w = w8} (pos 0) tt) (known {w = w8} h tt) tt)
+  pub i8-opposite-small : Abs (toZ w8 (ofZ w8 (pos 0 -ℤ toZ w8 (ofZ w8 z)))) 32
+  i8-opposite-small = bound (sub (num {w = w8} (pos 0) tt) (known {w = w8} h tt) tt)

@@ -9,6 +9,7 @@ use lib.IntN.{ℤ, pos, negℤ, _+ℤ_, _-ℤ_, _*ℤ_}
 use Rattle.integers.specs.Orders.{_≼_, _≺_}
 use Rattle.integers.specs.Count.{_∈_}
 use Rattle.integers.proofs.Ring.{ring, reify, _⊢_}
+use Rattle.limits.specs.Sizes.{penMax}
 use Rattle.setting.specs.declared.Setting.{Setting}
 use Rattle.setting.specs.Setting.{Taken, Dx, Dy}
 use Rattle.quarter.specs.Cutting.{Corner, quarter}
@@ -16,9 +17,9 @@ use Rattle.plane.specs.Point.{Pt}
 use Rattle.pen.specs.Polygon.{upward, upAndBack, around, closed, whole, pen}
 use Rattle.plane.specs.Polygon.{dot, edge, PenLaws}
 use Rattle.setting.proofs.Limits.{box-wide, box-high}
-use Rattle.quarter.proofs.Naturals.{le-pos, lt-pos, diff}
+use Rattle.quarter.proofs.Naturals.{le-pos, lt-pos, diff-pos}
 use Rattle.quarter.proofs.Chain.{Chain, stop, link}
-use Rattle.quarter.proofs.Ranges.{x-range, y-range, few-corners, some, split-chain, lowest}
+use Rattle.quarter.proofs.Ranges.{x-range, y-range, quarter-few-corners, quarter-cons, quarter-split, quarter-lowest}
 use Rattle.pen.proofs.Convex.{Adjacent, here, there, Inside, inside-all, adjacent-on}
 use Rattle.pen.proofs.Once.{once-few}
 use Rattle.pen.proofs.Images.{map-mem, around-length}
@@ -44,11 +45,15 @@ rises all A B h k = record {
   inner = λ z m.
       let r = map-mem upward all m in
       let C = r .0 in
-      subst (λ (w : Pt). dot (edge (upward A) (upward B) .a) (edge (upward A) (upward B) .b) w ≼ edge (upward A) (upward B) .c) (sym (r .2))
-      (inner (pos (A .x)) (pos (A .y)) (pos (B .x)) (pos (B .y)) (pos (C .x)) (pos (C .y)) (pos (A .y - B .y)) (pos (B .x - A .x)) (diff (A .y) (B .y) (omega arith)) (diff (B .x) (A .x) (omega arith)) (le-pos (k C (r .1))));
+      let e = edge (upward A) (upward B) in
+      let falls = diff-pos (A .y) (B .y) (omega arith) in
+      let goes = diff-pos (B .x) (A .x) (omega arith) in
+      subst (λ (w : Pt). dot (e .a) (e .b) w ≼ e .c) (sym (r .2))
+      (inner (pos (A .x)) (pos (A .y)) (pos (B .x)) (pos (B .y)) (pos (C .x)) (pos (C .y)) (pos (A .y - B .y)) (pos (B .x - A .x)) falls goes (le-pos (k C (r .1))));
 }
 
-steps : {D k pu pv a b : ℕ} (R : Pt → Pt → Type 0) (P : Corner) (l : List Corner) → Chain D k pu pv a b (P ∷ l) → ((A B : Corner) → Adjacent A B (P ∷ l) → R (upward A) (upward B)) → Steps R (pos D) (upward P) (map upward l)
+steps : {D k pu pv a b : ℕ} (R : Pt → Pt → Type 0) (P : Corner) (l : List Corner) → Chain D k pu pv a b (P ∷ l) →
+    ((A B : Corner) → Adjacent A B (P ∷ l) → R (upward A) (upward B)) → Steps R (pos D) (upward P) (map upward l)
 steps R P [] (link l u v r (stop e)) f = ap pos e
 steps R P (Q ∷ ds) (link l u v r s) f = (f P Q here, steps R Q ds s (λ A B n. f A B (there n)))
 
@@ -56,11 +61,11 @@ down : (y : ℕ) → negℤ (pos y) ≼ pos 0
 down y = flip-le (pos 0) (pos y) (le-pos (omega arith))
 
 module _ (σ : Setting) (τ : Taken σ) where
-  is-quarter : IsQuarter (upward (some σ τ .first)) (map upward (some σ τ .others)) (pos (Dx σ)) (pos (Dy σ))
+  is-quarter : IsQuarter (upward (quarter-cons σ τ .first)) (map upward (quarter-cons σ τ .others)) (pos (Dx σ)) (pos (Dy σ))
   is-quarter =
-      let c = some σ τ .first in
-      let l = some σ τ .others in
-      let s = split-chain σ τ in
+      let c = quarter-cons σ τ .first in
+      let l = quarter-cons σ τ .others in
+      let s = quarter-split σ τ in
       record {
         low = λ z m.
             let r = map-mem upward (c ∷ l) m in
@@ -68,7 +73,7 @@ module _ (σ : Setting) (τ : Taken σ) where
             subst (Low (pos (Dx σ)) (pos (Dy σ))) (sym (r .2)) (record
             { right₀ = le-pos (omega arith); wide = le-pos (x-range s C (r .1) .1); below = down (C .y); deep = flip-le (pos (C .y)) (pos (Dy σ)) (le-pos (y-range s C (r .1))) });
         steps = steps (Rises (map upward (c ∷ l))) c l s (λ A B n. rises (c ∷ l) A B (adjacent-on s n) (λ C m. inside-all s n C m));
-        bottom = ap (λ (y : ℕ). negℤ (pos y)) (lowest σ τ);
+        bottom = ap (λ (y : ℕ). negℤ (pos y)) (quarter-lowest σ τ);
         wide₁ = le-pos (box-wide τ .0);
         high₁ = le-pos (box-high τ .0);
       }
@@ -76,11 +81,11 @@ module _ (σ : Setting) (τ : Taken σ) where
   -- the pen is the polygon of this quarter
   pub is-pen : PenLaws (pen σ) (pos (Dx σ)) (pos (Dy σ))
   unfolding pen upAndBack
-  is-pen = subst (λ (cs : List Corner). PenLaws (whole (map upward cs)) (pos (Dx σ)) (pos (Dy σ))) (sym (some σ τ .cons)) (pen-of _ _ (pos (Dx σ)) (pos (Dy σ)) is-quarter)
+  is-pen = subst (λ (cs : List Corner). PenLaws (whole (map upward cs)) (pos (Dx σ)) (pos (Dy σ))) (sym (quarter-cons σ τ .cons)) (pen-of _ _ (pos (Dx σ)) (pos (Dy σ)) is-quarter)
 
-  pub few-of-pen : length (pen σ) ≤ 132
+  pub few-of-pen : length (pen σ) ≤ penMax
   unfolding pen
-  few-of-pen = omega (arith, closed-few (around (map upward (quarter σ))), around-length (map upward (quarter σ)), length-map (quarter σ) upward, few-corners σ τ)
+  few-of-pen = omega (arith, closed-few (around (map upward (quarter σ))), around-length (map upward (quarter σ)), length-map (quarter σ) upward, quarter-few-corners σ τ)
     where
       closed-few : (l : List Pt) → length (closed l) ≤ length l
       closed-few [] = omega arith

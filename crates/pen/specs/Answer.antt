@@ -1,6 +1,7 @@
 -- What the code answers: the pen as the code's arrays hold it, and document 01's refusal 1.
 use mathlib.Core.List.{List, [], map}
 use lib.ListN.{length}
+use Rattle.limits.specs.Sizes.{penMax}
 use Rattle.setting.specs.declared.Setting.{Setting}
 use Rattle.setting.specs.declared.Checked.{Checked}
 use Rattle.setting.specs.declared.Checked.the-variants as checked·
@@ -12,7 +13,7 @@ use Rattle.plane.specs.Point.{Pt, corners}
 use Rattle.pen.specs.Polygon.{pen}
 
 abbrev pub penOf : List Pt → Pen
-penOf cs = record { count = length cs; x = laid 132 (map (λ z. z .x) cs); y = laid 132 (map (λ z. z .y) cs) }
+penOf cs = record { count = length cs; x = laid penMax (map (λ z. z .x) cs); y = laid penMax (map (λ z. z .y) cs) }
 
 -- the corners that a pen's arrays hold, whatever they are
 abbrev pub penCorners : Pen → List Pt

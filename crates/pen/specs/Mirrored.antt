@@ -2,10 +2,11 @@
 use Prim.Native.Nat.{ℕ, _+_, _≤_, _<_}
 use mathlib.Core.Path.{_≡_}
 use mathlib.Core.Bool.{cond}
-use mathlib.Core.List.{List, [], _∷_}
-use lib.ListN.{length, take, set, getD}
-use lib.IntN.{ℤ, pos}
+use mathlib.Core.List.{List}
+use lib.ListN.{length, set, getD}
+use lib.IntN.{pos}
 use Rattle.integers.specs.Bound.{Abs}
+use Rattle.limits.specs.Sizes.{quarterMax}
 use Rattle.quarter.specs.declared.Quarter.{Quarter}
 use Rattle.pen.specs.declared.Pen.{Pen}
 use Rattle.pen.specs.declared.polygon.Point.{Point}
@@ -20,12 +21,17 @@ pointOf p = pt (p .x) (p .y)
 abbrev pub cornersOf : Quarter → List Pt
 cornersOf q = corners (q .count) (q .x) (q .y)
 
+-- a corner lies in the largest pen's box, so that its numbers have opposites
+pub record Boxed (p : Point) : Type 0 where
+  pub x-small : Abs (p .x) 32
+  pub y-small : Abs (p .y) 32
+
 -- there is a corner, all lie in the arrays, and each has an opposite
 pub record Mirrorable (q : Quarter) : Type 0 where
   pub some : 1 ≤ q .count
-  pub few : q .count ≤ 33
-  pub x-long : length (q .x) ≡ 33
-  pub y-long : length (q .y) ≡ 33
+  pub few : q .count ≤ quarterMax
+  pub x-long : length (q .x) ≡ quarterMax
+  pub y-long : length (q .y) ≡ quarterMax
   pub x-small : (i : ℕ) → i < q .count → Abs (getD (q .x) i (pos 0)) 32
   pub y-small : (i : ℕ) → i < q .count → Abs (getD (q .y) i (pos 0)) 32
 

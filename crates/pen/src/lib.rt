@@ -3,6 +3,9 @@
 // The way of the data: a setting is checked (crate setting), the corners of its lower right quarter
 // are cut one after the other (crate quarter), and the quarter is mirrored into the whole polygon
 // (polygon). What each function promises is cited from specs/.
+use limits::BAD_SETTING;
+use limits::DONE;
+use limits::PEN_MAX;
 use setting::Checked;
 ghost use mathlib.Core.Path.{_≡_};
 ghost use Rattle.pen.specs.Answer.{built};
@@ -12,8 +15,8 @@ mod polygon;
 // The corners of the whole polygon, counterclockwise from the bottom, in half pixels, y upwards.
 pub struct Pen {
     pub count: usize,
-    pub x: [i8; 132],
-    pub y: [i8; 132],
+    pub x: [i8; PEN_MAX],
+    pub y: [i8; PEN_MAX],
 }
 
 // Document 01's refusal number, and the pen, which has no corners on a refusal.
@@ -28,13 +31,13 @@ pub fn build(w: u64, p: u64, q: u64) -> Built
 {
     let Checked::Taken(s) = setting::check(w, p, q) else {
         return Built {
-            refusal: 1,
+            refusal: BAD_SETTING,
             pen: polygon::none(),
         };
     };
     let lower_right = quarter::build(s);
     Built {
-        refusal: 0,
+        refusal: DONE,
         pen: polygon::mirrored(lower_right),
     }
 }

@@ -1,15 +1,16 @@
 // The whole polygon: the quarter and its mirror images in both axes, equal corners once.
 use crate::Pen;
+use limits::PEN_MAX;
 use quarter::Quarter;
 ghost use mathlib.Core.Path.{_≡_};
 ghost use mathlib.Core.List.{[]};
 ghost use Prim.Native.Nat.{_*_, _<_};
 ghost use lib.ListN.{getD};
-ghost use Rattle.integers.specs.Bound.{Abs};
+ghost use Rattle.limits.specs.Sizes.{penMax};
 ghost use Rattle.plane.specs.Point.{pt, same};
 ghost use Rattle.pen.specs.Polygon.{side, around, whole};
 ghost use Rattle.pen.specs.Answer.{penOf};
-ghost use Rattle.pen.specs.Mirrored.{Mirrorable, cornersOf, pointOf, pushed, origin};
+ghost use Rattle.pen.specs.Mirrored.{Boxed, Mirrorable, cornersOf, pointOf, pushed, origin};
 
 // A corner in half pixels, y upwards.
 pub struct Point {
@@ -22,15 +23,17 @@ pub fn none() -> Pen
 {
     Pen {
         count: 0,
-        x: [0; 132],
-        y: [0; 132],
+        x: [0; PEN_MAX],
+        y: [0; PEN_MAX],
     }
 }
 
 // Corner i of the right side: up the quarter, and back along its mirror image in the x axis.
 fn right_side(q: Quarter, i: usize) -> Point
-    requires { ⌜ Mirrorable q ⌝ ∗ ⌜ i < 2 * q .count ⌝ }
-    ensures { λ r. ⌜ pointOf r ≡ getD (side (cornersOf q)) i origin ⌝ ∗ ⌜ Abs (r .x) 32 × Abs (r .y) 32 ⌝ }
+    requires quarter { ⌜ Mirrorable q ⌝ }
+    requires inside { ⌜ i < 2 * q .count ⌝ }
+    ensures corner { λ r. ⌜ pointOf r ≡ getD (side (cornersOf q)) i origin ⌝ }
+    ensures small { λ r. ⌜ Boxed r ⌝ }
 {
     let n = q.count;
     if i < n {
@@ -48,8 +51,10 @@ fn right_side(q: Quarter, i: usize) -> Point
 
 // Corner i of the walk around the polygon: the right side, and the same turned by half a turn.
 fn corner_at(q: Quarter, i: usize) -> Point
-    requires { ⌜ Mirrorable q ⌝ ∗ ⌜ i < 4 * q .count ⌝ }
-    ensures { λ r. ⌜ pointOf r ≡ getD (around (cornersOf q)) i origin ⌝ ∗ ⌜ Abs (r .x) 32 × Abs (r .y) 32 ⌝ }
+    requires quarter { ⌜ Mirrorable q ⌝ }
+    requires inside { ⌜ i < 4 * q .count ⌝ }
+    ensures corner { λ r. ⌜ pointOf r ≡ getD (around (cornersOf q)) i origin ⌝ }
+    ensures small { λ r. ⌜ Boxed r ⌝ }
 {
     let half = 2 * q.count;
     if i < half {
@@ -67,7 +72,7 @@ fn equal(ax: i8, ay: i8, bx: i8, by: i8) -> bool
 
 // The pen with the corner (ax, ay) more, unless the next corner (bx, by) is equal.
 fn push(p: Pen, ax: i8, ay: i8, bx: i8, by: i8) -> Pen
-    requires { ⌜ p .count < 132 ⌝ }
+    requires { ⌜ p .count < penMax ⌝ }
     ensures { λ r. ⌜ r ≡ pushed p (pt ax ay) (pt bx by) ⌝ }
 {
     if equal(ax, ay, bx, by) {

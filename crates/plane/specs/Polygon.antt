@@ -1,5 +1,5 @@
--- What every later layer uses of a pen: one record of laws over a list of corners, counterclockwise, each once, and the pen's size in half pixels
--- from its middle. Another shape of pen needs to satisfy nothing else.
+-- Half planes, the edges of a polygon, and what every later layer uses of a pen: one record of laws over a list of corners, counterclockwise, each
+-- once, and the pen's size in half pixels from its middle. Another shape of pen needs to satisfy nothing else.
 use mathlib.Core.Path.{_≡_}
 use mathlib.Core.List.{List, [], _∷_}
 use lib.IntN.{ℤ, pos, negℤ, _+ℤ_, _-ℤ_, _*ℤ_}
@@ -13,6 +13,7 @@ pub record Side : Type 0 where
   pub b : ℤ
   pub c : ℤ
 
+-- a x + b y at the point P
 abbrev pub dot : ℤ → ℤ → Pt → ℤ
 dot a b P = a *ℤ P .x +ℤ b *ℤ P .y
 
@@ -28,6 +29,7 @@ unfoldable pub chain : Pt → Pt → List Pt → List Side
 chain F P [] = edge P F ∷ []
 chain F P (Q ∷ l) = edge P Q ∷ chain F Q l
 
+-- the edges of a polygon, from its first corner around
 unfoldable pub edges : List Pt → List Side
 edges [] = []
 edges (P ∷ l) = chain P P l
@@ -37,6 +39,7 @@ abbrev pub reach : List Pt → ℤ
 reach [] = pos 0
 reach (z ∷ l) = negℤ (z .y)
 
+-- the laws of a pen
 pub record PenLaws (cs : List Pt) (Dx Dy : ℤ) : Type 0 where
   -- with a corner both its mirror images are corners; so it is equal to itself turned by half a turn
   pub mirrorX : (z : Pt) → z ∈ cs → pt (negℤ (z .x)) (z .y) ∈ cs
@@ -49,6 +52,8 @@ pub record PenLaws (cs : List Pt) (Dx Dy : ℤ) : Type 0 where
   pub high : (z : Pt) → z ∈ cs → z .y ≼ Dy
   pub rightmost : (z : Pt) × (z ∈ cs) × (z .x ≡ Dx)
   pub lowest : (z : Pt) × (z ∈ cs) × (z .y ≡ negℤ Dy)
+  -- the list begins at the bottom, so that its first corner tells how high the pen is
   pub reaches : reach cs ≡ Dy
+  -- and it is not empty
   pub somewide : pos 1 ≼ Dx
   pub somehigh : pos 1 ≼ Dy

@@ -11,8 +11,8 @@ use Rattle.setting.specs.declared.Setting.{Setting}
 use Rattle.quarter.specs.declared.Edge.{Edge}
 use Rattle.quarter.specs.Cutting.{State, size, retained, cutBy, cut}
 use Rattle.quarter.specs.Moment.{sum, total}
-use Rattle.quarter.proofs.Invariant.{After, Before, Going, flatter, turns, ups, lines, room, span}
-use Rattle.quarter.proofs.Pieces.{shorten, shortened, replaced, gone, cut-on, between, flat}
+use Rattle.quarter.proofs.Invariant.{After, Before, Going, after-flatter, after-turns, after-rises, after-line, after-room, before-span}
+use Rattle.quarter.proofs.Pieces.{right-shortened, left-shortened, left-replaced, right-gone, new-on-line, new-between, new-flatter}
 use Rattle.quarter.proofs.Slope.{slide-back}
 
 -- the retained point is on the edge
@@ -29,7 +29,7 @@ module _ {D k pu pv a b x y : ℕ} (σ : Setting) (L R : Edge) (rest : List Edge
     (e : L .l1 ≡ k) (base : k ≤ D) (bottom : 1 ≤ k → L .u ≡ 1) (p : 1 ≤ pu) (pos : 1 ≤ s) (hl : s ≤ L .l2) (hr : s ≤ R .l1) (near : L .u * R .v ≤ 1 + L .v * R .u)
     (r : Before pu pv a b x y L) (cl : L .c ≡ L .v * x + L .u * y) (q : After D (L .u) (L .v) x y (R ∷ rest)) where
   turn : L .v * R .u < L .u * R .v
-  turn = turns (r .right) q
+  turn = after-turns (r .right) q
 
   -- step 1 lets no determinant above 1 through, and the edges turn
   one : L .u * R .v ≡ suc (L .v * R .u)
@@ -37,10 +37,10 @@ module _ {D k pu pv a b x y : ℕ} (σ : Setting) (L R : Edge) (rest : List Edge
 
   -- the end of the new edge
   lies-on : L .c + R .c - s ≡ (L .v + R .v) * (x + s * R .u) + (L .u + R .u) * (y - s * R .v)
-  lies-on = cut-on (L .u) (L .v) (R .u) (R .v) s x y (L .c) (R .c) one (room s hr q) cl (lines q)
+  lies-on = new-on-line (L .u) (L .v) (R .u) (R .v) s x y (L .c) (R .c) one (after-room s hr q) cl (after-line q)
 
   reach : s * L .u ≤ x
-  reach = span L s hl r
+  reach = before-span L s hl r
 
   -- whether s is all of L, and all of R
   cutting : (bl br : Bool) → (T bl → s ≡ size L) → (T (not bl) → s ≡ size L → ⊥) → (T br → s ≡ size R) → (T (not br) → s ≡ size R → ⊥) →
@@ -49,7 +49,7 @@ module _ {D k pu pv a b x y : ℕ} (σ : Setting) (L R : Edge) (rest : List Edge
   cutting true true yl nl yr nr =
       let el : s ≡ size L = yl tt in
       let er : s ≡ size R = yr tt in
-      let g = gone s hr er q in
+      let g = right-gone s hr er q in
       record {
         going = record {
           kept = e;
@@ -57,8 +57,8 @@ module _ {D k pu pv a b x y : ℕ} (σ : Setting) (L R : Edge) (rest : List Edge
           bottom = λ h. absurd (omega arith);
           turning = p;
           lies = lies-on;
-          behind = replaced L R s p hl el (room s hr q) (ups q) turn r;
-          ahead = flatter (L .u + R .u) (L .v + R .v) (omega (arith, r .right)) (le-of-lt (flat L R turn)) (g .1);
+          behind = left-replaced L R s p hl el (after-room s hr q) (after-rises q) turn r;
+          ahead = after-flatter (L .u + R .u) (L .v + R .v) (omega (arith, r .right)) (le-of-lt (new-flatter L R turn)) (g .1);
         };
         less = omega arith;
       }
@@ -72,15 +72,15 @@ module _ {D k pu pv a b x y : ℕ} (σ : Setting) (L R : Edge) (rest : List Edge
           bottom = λ h. absurd (omega arith);
           turning = p;
           lies = lies-on;
-          behind = replaced L R s p hl el (room s hr q) (ups q) turn r;
-          ahead = shorten s (L .u + R .u) (L .v + R .v) hr er (flat L R turn) q;
+          behind = left-replaced L R s p hl el (after-room s hr q) (after-rises q) turn r;
+          ahead = right-shortened s (L .u + R .u) (L .v + R .v) hr er (new-flatter L R turn) q;
         };
         less = omega arith;
       }
   cutting false true yl nl yr nr =
       let el : s ≡ size L → ⊥ = nl tt in
       let er : s ≡ size R = yr tt in
-      let g = gone s hr er q in
+      let g = right-gone s hr er q in
       record {
         going = record {
           kept = e;
@@ -88,9 +88,9 @@ module _ {D k pu pv a b x y : ℕ} (σ : Setting) (L R : Edge) (rest : List Edge
           bottom = bottom;
           turning = p;
           lies = slide-back (L .u) (L .v) s x y (L .c) reach cl;
-          behind = shortened L s hl el r;
-          ahead = between L R s (R .l1) (R .l2) cl (lines q) one (sym er) pos reach (room s hr q) (r .right) (ups q) turn
-              (flatter (L .u + R .u) (L .v + R .v) (omega (arith, r .right)) (le-of-lt (flat L R turn)) (g .1));
+          behind = left-shortened L s hl el r;
+          ahead = new-between L R s (R .l1) (R .l2) cl (after-line q) one (sym er) pos reach (after-room s hr q) (r .right) (after-rises q) turn
+              (after-flatter (L .u + R .u) (L .v + R .v) (omega (arith, r .right)) (le-of-lt (new-flatter L R turn)) (g .1));
         };
         less = omega arith;
       }
@@ -105,9 +105,9 @@ module _ {D k pu pv a b x y : ℕ} (σ : Setting) (L R : Edge) (rest : List Edge
           bottom = bottom;
           turning = p;
           lies = slide-back (L .u) (L .v) s x y (L .c) reach cl;
-          behind = shortened L s hl el r;
-          ahead = between L R s _ _ cl (lines q) one (omega (arith, small)) pos reach (room s hr q) (r .right) (ups q) turn
-              (shorten s (L .u + R .u) (L .v + R .v) hr er (flat L R turn) q);
+          behind = left-shortened L s hl el r;
+          ahead = new-between L R s _ _ cl (after-line q) one (omega (arith, small)) pos reach (after-room s hr q) (r .right) (after-rises q) turn
+              (right-shortened s (L .u + R .u) (L .v + R .v) hr er (new-flatter L R turn) q);
         };
         less = omega (arith, small);
       }

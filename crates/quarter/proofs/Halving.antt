@@ -11,7 +11,7 @@ use Rattle.setting.specs.declared.Setting.{Setting}
 use Rattle.setting.specs.Setting.{Taken}
 use Rattle.quarter.specs.declared.root.Interval.{Interval}
 use Rattle.quarter.specs.NearRoot.{norm, lower, nearRoot}
-use Rattle.quarter.specs.Held.{middle, halved}
+use Rattle.quarter.specs.Held.{Summed, middle, halved}
 use Rattle.quarter.proofs.NearRoot.{nearRoot-found}
 
 -- the bound rises with the value
@@ -23,7 +23,14 @@ lower-rises σ m n h = let o : 2 * m - 1 ≤ 2 * n - 1 = omega arith in mul-le-m
 abbrev pub brought : ℕ → ℕ → ℕ → ℕ
 brought low high m = max low (min high m)
 
-module _ (σ : Setting) (t : Taken σ) (u v : ℕ) (hu : u ≤ 64) (hv : v ≤ 64) where
+-- one try from i to r: the interval is shorter, lies within what it was, and brings m to the same number
+pub record Kept (m : ℕ) (i r : Interval) : Type 0 where
+  pub ordered : r .low ≤ r .high
+  pub high : r .high ≤ i .high
+  pub shorter : r .high - r .low < i .high - i .low
+  pub same : brought (r .low) (r .high) m ≡ brought (i .low) (i .high) m
+
+module _ (σ : Setting) (t : Taken σ) (u v : ℕ) (s : Summed u v) where
   square : ℕ
   square = σ .w * σ .w * norm σ u v
 
@@ -32,28 +39,23 @@ module _ (σ : Setting) (t : Taken σ) (u v : ℕ) (hu : u ≤ 64) (hv : v ≤ 6
   unfolding square
   tried-low m h = elim (decLe m (nearRoot σ u v)) [
     | yes k ↦ k
-    | no k ↦ absurd (omega (arith, h, nearRoot-found σ t u v hu hv .1, lower-rises σ (suc (nearRoot σ u v)) m (omega arith)))
+    | no k ↦ absurd (omega (arith, h, nearRoot-found σ t u v (s .u-small) (s .v-small) .1, lower-rises σ (suc (nearRoot σ u v)) m (omega arith)))
   ]
 
   tried-high : (m : ℕ) → square < lower σ m → nearRoot σ u v < m
   unfolding square
   tried-high m h = elim (decLe m (nearRoot σ u v)) [
-    | yes k ↦ absurd (omega (arith, h, nearRoot-found σ t u v hu hv .0, lower-rises σ m (nearRoot σ u v) k))
+    | yes k ↦ absurd (omega (arith, h, nearRoot-found σ t u v (s .u-small) (s .v-small) .0, lower-rises σ m (nearRoot σ u v) k))
     | no k ↦ omega arith
   ]
 
-  -- one try: the interval is shorter, lies within what it was, and brings the near root to the same number
-  pub record Kept (i r : Interval) : Type 0 where
-    pub ordered : r .low ≤ r .high
-    pub high : r .high ≤ i .high
-    pub shorter : r .high - r .low < i .high - i .low
-    pub same : brought (r .low) (r .high) (nearRoot σ u v) ≡ brought (i .low) (i .high) (nearRoot σ u v)
-
-  pub halved-keeps : (i : Interval) {r : Interval} → i .low < i .high → r ≡ halved (lower σ) (σ .w * σ .w * norm σ u v) i → Kept i r
+  -- the try at the middle keeps the near root
+  pub halved-keeps : (i : Interval) {r : Interval} → i .low < i .high → r ≡ halved (lower σ) (σ .w * σ .w * norm σ u v) i → Kept (nearRoot σ u v) i r
   unfolding halved square
   halved-keeps i h e = rw e (go (leb (lower σ (middle i)) square) refl)
     where
-      go : (b : Bool) → leb (lower σ (middle i)) square ≡ b → Kept i (elim b as (λ _. Interval) [ true ↦ record { low = middle i; high = i .high } | false ↦ record { low = i .low; high = middle i - 1 } ])
+      go : (b : Bool) → leb (lower σ (middle i)) square ≡ b →
+          Kept (nearRoot σ u v) i (elim b as (λ _. Interval) [ true ↦ record { low = middle i; high = i .high } | false ↦ record { low = i .low; high = middle i - 1 } ])
       go true q = let k = tried-low (middle i) (leb-true _ _ q) in record { ordered = omega arith; high = omega arith; shorter = omega arith; same = omega arith }
       go false q = let k = tried-high (middle i) (leb-false _ _ q) in record { ordered = omega arith; high = omega arith; shorter = omega arith; same = omega arith }
 

@@ -52,9 +52,9 @@ pub record Going (D k pu pv a b : ℕ) (t : State) : Type 0 where
   pub ahead : After D (t .before .u) (t .before .v) (t .x) (t .y) (t .after)
 
 -- a flatter edge may stand before
-pub flatter : {D pu pv x y : ℕ} {es : List Edge} (qu qv : ℕ) → 1 ≤ qu → qv * pu ≤ qu * pv → After D pu pv x y es → After D qu qv x y es
-flatter qu qv h k (upright r) = upright r
-flatter {pu = pu} {pv = pv} qu qv h k (inner y′ {e = e} r s) = inner y′ (record {
+pub after-flatter : {D pu pv x y : ℕ} {es : List Edge} (qu qv : ℕ) → 1 ≤ qu → qv * pu ≤ qu * pv → After D pu pv x y es → After D qu qv x y es
+after-flatter qu qv h k (upright r) = upright r
+after-flatter {pu = pu} {pv = pv} qu qv h k (inner y′ {e = e} r s) = inner y′ (record {
   right = r .right;
   up = r .up;
   long = r .long;
@@ -65,26 +65,26 @@ flatter {pu = pu} {pv = pv} qu qv h k (inner y′ {e = e} r s) = inner y′ (rec
 
 -- ---- of the edge before the corner
 -- from its retained point on it stays in the box
-pub span : {pu pv a b x y : ℕ} (L : Edge) (s : ℕ) → s ≤ L .l2 → Before pu pv a b x y L → s * L .u ≤ x
-span L s h r = omega (arith, mul-le-mul-right (L .u) h, r .across)
+pub before-span : {pu pv a b x y : ℕ} (L : Edge) (s : ℕ) → s ≤ L .l2 → Before pu pv a b x y L → s * L .u ≤ x
+before-span L s h r = omega (arith, mul-le-mul-right (L .u) h, r .across)
 
 -- ---- of the first edge after the corner
-pub turns : {D pu pv x y : ℕ} {R : Edge} {rest : List Edge} → 1 ≤ pu → After D pu pv x y (R ∷ rest) → pv * R .u < pu * R .v
-turns {pu = pu} {pv = pv} h (upright r) = rw (r .level, r .up) (omega (arith, mul-zero pv, mul-one pu))
-turns h (inner y′ r s) = r .turn
+pub after-turns : {D pu pv x y : ℕ} {R : Edge} {rest : List Edge} → 1 ≤ pu → After D pu pv x y (R ∷ rest) → pv * R .u < pu * R .v
+after-turns {pu = pu} {pv = pv} h (upright r) = rw (r .level, r .up) (omega (arith, mul-zero pv, mul-one pu))
+after-turns h (inner y′ r s) = r .turn
 
-pub ups : {D pu pv x y : ℕ} {R : Edge} {rest : List Edge} → After D pu pv x y (R ∷ rest) → 1 ≤ R .v
-ups (upright r) = omega (arith, r .up)
-ups (inner y′ r s) = r .up
+pub after-rises : {D pu pv x y : ℕ} {R : Edge} {rest : List Edge} → After D pu pv x y (R ∷ rest) → 1 ≤ R .v
+after-rises (upright r) = omega (arith, r .up)
+after-rises (inner y′ r s) = r .up
 
-pub lines : {D pu pv x y : ℕ} {R : Edge} {rest : List Edge} → After D pu pv x y (R ∷ rest) → R .c ≡ R .v * x + R .u * y
-lines {x = x} {y = y} (upright {e = R} r) = rw (r .level, r .up) (omega (arith, r .line, zero-mul y))
-lines (inner y′ r s) = r .line
+pub after-line : {D pu pv x y : ℕ} {R : Edge} {rest : List Edge} → After D pu pv x y (R ∷ rest) → R .c ≡ R .v * x + R .u * y
+after-line {x = x} {y = y} (upright {e = R} r) = rw (r .level, r .up) (omega (arith, r .line, zero-mul y))
+after-line (inner y′ r s) = r .line
 
 -- up to its retained point it stays in the box
-pub room : {D pu pv x y : ℕ} {R : Edge} {rest : List Edge} (s : ℕ) → s ≤ R .l1 → After D pu pv x y (R ∷ rest) → s * R .v ≤ y
-room s h (upright r) = rw (r .up, mul-one s) (omega (arith, r .start))
-room s h (inner y′ {e = R} r t) =
+pub after-room : {D pu pv x y : ℕ} {R : Edge} {rest : List Edge} (s : ℕ) → s ≤ R .l1 → After D pu pv x y (R ∷ rest) → s * R .v ≤ y
+after-room s h (upright r) = rw (r .up, mul-one s) (omega (arith, r .start))
+after-room s h (inner y′ {e = R} r t) =
     let m : s * R .v ≤ size R * R .v = mul-le-mul-right (R .v) (omega arith) in
     omega (arith, r .down)
 

@@ -9,6 +9,7 @@ use lib.Seq.{set-append-seam, append-snoc}
 use lib.IntN.{ℤ, pos}
 use Rattle.integers.specs.Count.{_∈_}
 use Rattle.integers.specs.Bound.{Abs}
+use Rattle.limits.specs.Sizes.{quarterMax}
 use Rattle.quarter.specs.Cutting.{Corner}
 use Rattle.quarter.specs.Answer.{laid, across, upwards, quarterOf}
 use Rattle.quarter.specs.Held.{stored}
@@ -32,8 +33,8 @@ pub count-snoc : {A : Type 0} (cs : List A) (z : A) → length cs + 1 ≡ length
 count-snoc cs z = sym (length-append cs (z ∷ []))
 
 -- the quarter's arrays with a corner more
-pub stored-quarter : (cs : List Corner) (c : Corner) → length cs < 33 → stored (quarterOf cs) (across c) (upwards c) ≡ quarterOf (cs ++ (c ∷ []))
-stored-quarter cs c h = rw (count-snoc cs c, laid-corner 33 across cs c h, laid-corner 33 upwards cs c h)
+pub stored-quarter : (cs : List Corner) (c : Corner) → length cs < quarterMax → stored (quarterOf cs) (across c) (upwards c) ≡ quarterOf (cs ++ (c ∷ []))
+stored-quarter cs c h = rw (count-snoc cs c, laid-corner quarterMax across cs c h, laid-corner quarterMax upwards cs c h)
 
 -- the arrays are full, and hold nothing further out than the list
 pub laid-long : {A : Type 0} (n : ℕ) (f : A → ℤ) (cs : List A) → length cs ≤ n → length (laid n (map f cs)) ≡ n

@@ -20,8 +20,8 @@ lt-pos {a} {b} h = ltZ-yes (lt→ltb a b h)
 sub-of : (x y z : ℤ) → x +ℤ y ≡ z → x ≡ z -ℤ y
 sub-of = ring 3 _ (simp reify (omega arith))
 
-pub diff : (a b : ℕ) → b ≤ a → pos (a - b) ≡ pos a -ℤ pos b
-diff a b h = let e : a - b + b ≡ a = omega arith in sub-of (pos (a - b)) (pos b) (pos a) (ap pos e)
+pub diff-pos : (a b : ℕ) → b ≤ a → pos (a - b) ≡ pos a -ℤ pos b
+diff-pos a b h = let e : a - b + b ≡ a = omega arith in sub-of (pos (a - b)) (pos b) (pos a) (ap pos e)
 
 pub min-pos : (a b : ℕ) → minZ (pos a) (pos b) ≡ pos (min a b)
 min-pos a b = elim (min-case (pos a) (pos b)) [

@@ -19,7 +19,7 @@ use Rattle.quarter.proofs.Most.{norm-least}
 use Rattle.quarter.specs.NearRoot.{norm}
 use Rattle.quarter.specs.Cutting.{retained}
 use Rattle.quarter.specs.Steps.{Retained}
-use Rattle.quarter.proofs.Naturals.{le-pos, lt-pos, diff, min-pos}
+use Rattle.quarter.proofs.Naturals.{le-pos, lt-pos, diff-pos, min-pos}
 
 -- k, the floor of (2n + m) / 2m, is the whole number nearest to n / m
 nearest-low : (n m k : ℤ) → pos 2 *ℤ m *ℤ k ≼ pos 2 *ℤ n +ℤ m → (pos 2 *ℤ k -ℤ pos 1) *ℤ m ≼ pos 2 *ℤ n
@@ -61,7 +61,7 @@ module _ (a d m s : ℕ) (h : 1 ≤ m) where
       go : (pos d ≼ pos a) ⊎ (pos a ≺ pos d) → pos (min s ((2 * (a - d) + m) / (2 * m))) ≡ maxZ (pos 0) (minZ (pos s) k)
       go (inl e) =
           let j : ℕ = (2 * (a - d) + m) / (2 * m) in
-          let ek : k ≡ pos j = ap (λ (z : ℤ). fdiv (pos 2 *ℤ z +ℤ pos m) (2 * m)) (sym (diff a d (leb→le d a (e .le)))) in
+          let ek : k ≡ pos j = ap (λ (z : ℤ). fdiv (pos 2 *ℤ z +ℤ pos m) (2 * m)) (sym (diff-pos a d (leb→le d a (e .le)))) in
           max-pos (min s j) ∙ ap (λ (z : ℤ). maxZ (pos 0) z) (sym (min-pos s j)) ∙ ap (λ (z : ℤ). maxZ (pos 0) (minZ (pos s) z)) (sym ek)
       go (inr e) =
           let l : a < d = ltb→lt a d (e .lt) in

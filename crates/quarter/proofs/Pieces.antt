@@ -15,9 +15,9 @@ split : (l s m n : ℕ) → l ≡ s + m → l * n ≡ s * n + m * n
 split l s m n e = ap (λ (k : ℕ). k * n) e ∙ add-mul s m n
 
 -- s of R's directions are cut off its start
-pub shorten : {D pu pv x y : ℕ} {R : Edge} {rest : List Edge} (s qu qv : ℕ) → s ≤ R .l1 → (s ≡ size R → ⊥) →
+pub right-shortened : {D pu pv x y : ℕ} {R : Edge} {rest : List Edge} (s qu qv : ℕ) → s ≤ R .l1 → (s ≡ size R → ⊥) →
     qv * R .u < qu * R .v → After D pu pv x y (R ∷ rest) → After D qu qv (x + s * R .u) (y - s * R .v) (shortR R s ∷ rest)
-shorten {x = x} {y = y} {R = R} s qu qv h n t (upright r) = upright {x = x + s * R .u} {y = y - s * R .v} {e = shortR R s} (record {
+right-shortened {x = x} {y = y} {R = R} s qu qv h n t (upright r) = upright {x = x + s * R .u} {y = y - s * R .v} {e = shortR R s} (record {
   level = r .level;
   up = r .up;
   half = r .half;
@@ -26,7 +26,7 @@ shorten {x = x} {y = y} {R = R} s qu qv h n t (upright r) = upright {x = x + s *
   place = rw (r .level, mul-zero s) (omega (arith, r .place));
   line = rw (r .level, mul-zero s) (omega (arith, r .line));
 })
-shorten {D} {x = x} {y = y} {R = R} {rest = rest} s qu qv h n t (inner y′ r k) =
+right-shortened {D} {x = x} {y = y} {R = R} {rest = rest} s qu qv h n t (inner y′ r k) =
     let m : ℕ = size (shortR R s) in
     let e : size R ≡ s + m = omega arith in
     let ev : size R * R .v ≡ s * R .v + m * R .v = split (size R) s m (R .v) e in
@@ -42,9 +42,9 @@ shorten {D} {x = x} {y = y} {R = R} {rest = rest} s qu qv h n t (inner y′ r k)
     inner y′ i (subst (λ (z : ℕ). After D (R .u) (R .v) z y′ rest) (omega arith) k)
 
 -- the edge L with s directions off its end
-pub shortened : {pu pv a b x y : ℕ} (L : Edge) (s : ℕ) → s ≤ L .l2 → (s ≡ size L → ⊥) → Before pu pv a b x y L →
+pub left-shortened : {pu pv a b x y : ℕ} (L : Edge) (s : ℕ) → s ≤ L .l2 → (s ≡ size L → ⊥) → Before pu pv a b x y L →
     Before pu pv a b (x - s * L .u) (y + s * L .v) (shortL L s)
-shortened L s h n r =
+left-shortened L s h n r =
     let m : ℕ = L .l2 - s in
     let e : L .l2 ≡ s + m = omega arith in
     let eu : L .l2 * L .u ≡ s * L .u + m * L .u = split (L .l2) s m (L .u) e in
@@ -60,9 +60,9 @@ shortened L s h n r =
     }
 
 -- the new edge in L's place
-pub replaced : {pu pv a b x y : ℕ} (L R : Edge) (s : ℕ) → 1 ≤ pu → s ≤ L .l2 → s ≡ size L → s * R .v ≤ y → 1 ≤ R .v →
+pub left-replaced : {pu pv a b x y : ℕ} (L R : Edge) (s : ℕ) → 1 ≤ pu → s ≤ L .l2 → s ≡ size L → s * R .v ≤ y → 1 ≤ R .v →
     L .v * R .u < L .u * R .v → Before pu pv a b x y L → Before pu pv a b (x + s * R .u) (y - s * R .v) (cutEdge L R s (L .l1) (L .l2))
-replaced {pu} {pv} L R s p h e q up t r =
+left-replaced {pu} {pv} L R s p h e q up t r =
     let e2 : s ≡ L .l2 = omega arith in
     let e1 : L .l1 ≡ 0 = omega arith in
     let t1 : pv * L .u ≤ pu * L .v = omega (arith, r .turn) in
@@ -80,10 +80,10 @@ replaced {pu} {pv} L R s p h e q up t r =
     }
 
 -- s is all of R, so R is no upright edge, and what follows it starts where the cut ends
-pub gone : {D pu pv x y : ℕ} {R : Edge} {rest : List Edge} (s : ℕ) → s ≤ R .l1 → s ≡ size R → After D pu pv x y (R ∷ rest) →
+pub right-gone : {D pu pv x y : ℕ} {R : Edge} {rest : List Edge} (s : ℕ) → s ≤ R .l1 → s ≡ size R → After D pu pv x y (R ∷ rest) →
     (1 ≤ R .u) × (After D (R .u) (R .v) (x + s * R .u) (y - s * R .v) rest)
-gone s h e (upright {e = R} r) = absurd (omega (arith, r .half))
-gone {D} {x = x} {y = y} {R = R} {rest = rest} s h e (inner y′ r k) =
+right-gone s h e (upright {e = R} r) = absurd (omega (arith, r .half))
+right-gone {D} {x = x} {y = y} {R = R} {rest = rest} s h e (inner y′ r k) =
     let eu : s * R .u ≡ size R * R .u = ap (λ (n : ℕ). n * R .u) e in
     let ev : s * R .v ≡ size R * R .v = ap (λ (n : ℕ). n * R .v) e in
     let ey : y′ ≡ y - s * R .v = omega (arith, r .down) in
@@ -102,9 +102,9 @@ cut-back Lu Lv Ru Rv s x y cl cr d h e f =
       add-mul Lu Ru (y + s * Lv),
     )
 
-pub cut-on : (Lu Lv Ru Rv s x y cl cr : ℕ) → Lu * Rv ≡ suc (Lv * Ru) → s * Rv ≤ y → cl ≡ Lv * x + Lu * y → cr ≡ Rv * x + Ru * y →
+pub new-on-line : (Lu Lv Ru Rv s x y cl cr : ℕ) → Lu * Rv ≡ suc (Lv * Ru) → s * Rv ≤ y → cl ≡ Lv * x + Lu * y → cr ≡ Rv * x + Ru * y →
     cl + cr - s ≡ (Lv + Rv) * (x + s * Ru) + (Lu + Ru) * (y - s * Rv)
-cut-on Lu Lv Ru Rv s x y cl cr d h e f =
+new-on-line Lu Lv Ru Rv s x y cl cr d h e f =
     omega (
       arith,
       slide-on Ru Rv s x y cr h f,
@@ -114,11 +114,12 @@ cut-on Lu Lv Ru Rv s x y cl cr d h e f =
     )
 
 -- the new edge N = cutEdge L R s l1 l2 between what is left of L and what follows at its end
-pub between : {D x y : ℕ} (L R : Edge) {rest : List Edge} (s l1 l2 : ℕ) → L .c ≡ L .v * x + L .u * y → R .c ≡ R .v * x + R .u * y → L .u * R .v ≡ suc (L .v * R .u) → l1 + l2 ≡ s → 1 ≤ s → s * L .u ≤ x → s * R .v ≤ y → 1 ≤ L .u → 1 ≤ R .v →
+pub new-between : {D x y : ℕ} (L R : Edge) {rest : List Edge} (s l1 l2 : ℕ) → L .c ≡ L .v * x + L .u * y → R .c ≡ R .v * x + R .u * y →
+    L .u * R .v ≡ suc (L .v * R .u) → l1 + l2 ≡ s → 1 ≤ s → s * L .u ≤ x → s * R .v ≤ y → 1 ≤ L .u → 1 ≤ R .v →
     L .v * R .u < L .u * R .v →
     After D (L .u + R .u) (L .v + R .v) (x + s * R .u) (y - s * R .v) rest →
     After D (L .u) (L .v) (x - s * L .u) (y + s * L .v) (cutEdge L R s l1 l2 ∷ rest)
-between {D} {x} {y} L R {rest} s l1 l2 cl cr one e h fx fy hu hv t k =
+new-between {D} {x} {y} L R {rest} s l1 l2 cl cr one e h fx fy hu hv t k =
     let m : ℕ = l1 + l2 in
     let eu : m * (L .u + R .u) ≡ s * L .u + s * R .u = ap (λ (n : ℕ). n * (L .u + R .u)) e ∙ mul-add s (L .u) (R .u) in
     let ev : m * (L .v + R .v) ≡ s * L .v + s * R .v = ap (λ (n : ℕ). n * (L .v + R .v)) e ∙ mul-add s (L .v) (R .v) in
@@ -135,7 +136,7 @@ between {D} {x} {y} L R {rest} s l1 l2 cl cr one e h fx fy hu hv t k =
     inner (y - s * R .v) i (subst (λ (z : ℕ). After D (L .u + R .u) (L .v + R .v) z (y - s * R .v) rest) ex k)
 
 -- the new edge is flatter than R
-pub flat : (L R : Edge) → L .v * R .u < L .u * R .v → (L .v + R .v) * R .u < (L .u + R .u) * R .v
-flat L R t =
+pub new-flatter : (L R : Edge) → L .v * R .u < L .u * R .v → (L .v + R .v) * R .u < (L .u + R .u) * R .v
+new-flatter L R t =
     let c : R .v * R .u ≡ R .u * R .v = mul-comm (R .v) (R .u) in
     omega (arith, add-mul (L .v) (R .v) (R .u), add-mul (L .u) (R .u) (R .v))

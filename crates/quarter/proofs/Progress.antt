@@ -15,7 +15,7 @@ use Rattle.quarter.specs.Cutting.{Corner, State, Step, ended, put, on, f
 use Rattle.quarter.specs.Moment.{Moment, start, puts, cuts, sum, total}
 use Rattle.setting.proofs.Limits.{box-wide, box-high}
 use Rattle.quarter.proofs.Invariant.{Going, upright}
-use Rattle.quarter.proofs.Rounds.{round, from}
+use Rattle.quarter.proofs.Rounds.{round, corners-by-step}
 use Rattle.quarter.proofs.Slope.{times-one}
 
 pub first-going : (σ : Setting) → Taken σ → Going (Dx σ) (Dx σ) 1 0 0 (Dy σ) (first σ)
@@ -56,11 +56,11 @@ module _ (σ : Setting) where
 
   corners-put : (f : ℕ) (t r : State) → step σ t ≡ put r → corners σ (suc f) t ≡ at t ∷ corners σ f r
   unfolding corners
-  corners-put f t r e = ap (from σ f t) e
+  corners-put f t r e = ap (corners-by-step σ f t) e
 
   corners-on : (f : ℕ) (t r : State) → step σ t ≡ on r → corners σ (suc f) t ≡ corners σ f r
   unfolding corners
-  corners-on f t r e = ap (from σ f t) e
+  corners-on f t r e = ap (corners-by-step σ f t) e
 
   -- a round that puts out a corner, and one that cuts
   counted-put : (out : List Corner) (t r : State) → step σ t ≡ put r → total r < total t → Counted σ out t → Counted σ (out ++ at t ∷ []) r

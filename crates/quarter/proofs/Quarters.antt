@@ -9,7 +9,7 @@ use Rattle.quarter.specs.Cutting.{State, Step, ended, put, on, first, st
 use Rattle.quarter.specs.Moment.{total}
 use Rattle.quarter.proofs.Chain.{Link, Chain, stop, link}
 use Rattle.quarter.proofs.Invariant.{Going}
-use Rattle.quarter.proofs.Rounds.{Passed, Round, round, from}
+use Rattle.quarter.proofs.Rounds.{Passed, Round, round, corners-by-step}
 use Rattle.quarter.proofs.Progress.{first-going, first-total, corners-over}
 
 -- what f rounds put out
@@ -24,7 +24,8 @@ passing σ f rec {D} t r p h = elim (p .next) [
 ]
 
 -- by the kind of the round
-stepping : (σ : Setting) (f : ℕ) → Walk σ f → {D k pu pv a b : ℕ} (t : State) → Going D k pu pv a b t → total t ≤ suc f → (s : Step) → Round D k pu pv a b t s → Chain D k pu pv a b (from σ f t s)
+stepping : (σ : Setting) (f : ℕ) → Walk σ f → {D k pu pv a b : ℕ} (t : State) → Going D k pu pv a b t → total t ≤ suc f →
+    (s : Step) → Round D k pu pv a b t s → Chain D k pu pv a b (corners-by-step σ f t s)
 stepping σ f rec t g h ended c = absurd (c .not-ended refl)
 stepping σ f rec {D} {k} {pu} {pv} {a} {b} t g h (put r) c =
     link (t .before .l2) (t .before .u) (t .before .v)

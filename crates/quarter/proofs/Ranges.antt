@@ -7,6 +7,7 @@ use lib.ListN.{length}
 use native.Mathlib.Nat.{mul-zero, one-le-mul}
 use native.Mathlib.Omega.{arith}
 use Rattle.integers.specs.Count.{_∈_}
+use Rattle.limits.specs.Sizes.{quarterMax}
 use Rattle.setting.specs.declared.Setting.{Setting}
 use Rattle.setting.specs.Setting.{Taken, Dx, Dy}
 use Rattle.quarter.specs.Cutting.{Corner, quarter}
@@ -34,8 +35,8 @@ y-range (link l u v {c = c} r k) C (List·Memᴰ·head e) =
 y-range (link l u v r k) C (List·Memᴰ·tail m) = omega (arith, r .down, y-range k C m)
 
 -- a link with no part before its start is at least one to the right and one up
-pub onward : {pu pv a b l u v x y : ℕ} → Link 0 pu pv a b l u v x y → (a < x) × (y < b)
-onward {l = l} {u} {v} r =
+pub link-onward : {pu pv a b l u v x y : ℕ} → Link 0 pu pv a b l u v x y → (a < x) × (y < b)
+link-onward {l = l} {u} {v} r =
     let h : 1 ≤ l * u = one-le-mul {a = l} {b = u} (omega (arith, r .long)) (r .right) in
     let i : 1 ≤ l * v = one-le-mul {a = l} {b = v} (omega (arith, r .long)) (omega (arith, r .up)) in
     (omega (arith, r .across), omega (arith, r .down))
@@ -43,7 +44,7 @@ onward {l = l} {u} {v} r =
 -- each corner is at least one further right, but for the first, which may stand at the bottom edge's middle
 count : {D pu pv a b : ℕ} {cs : List Corner} → Chain D 0 pu pv a b cs → a + length cs ≤ D
 count (stop e) = omega arith
-count (link l u v r k) = omega (arith, onward r .0, count k)
+count (link l u v r k) = omega (arith, link-onward r .0, count k)
 
 count-first : {D k pu pv a b : ℕ} {cs : List Corner} → Chain D k pu pv a b cs → a + length cs ≤ suc D
 count-first (stop e) = omega arith
@@ -68,17 +69,17 @@ some-of h (link l u v {c = c} {cs = cs} r s) = record { first = c; others = cs; 
 
 -- ---- the quarter
 module _ (σ : Setting) (τ : Taken σ) where
-  pub few-corners : length (quarter σ) ≤ 33
-  few-corners = omega (arith, count-first (quarter-chain σ τ), box-wide τ .1)
+  pub quarter-few-corners : length (quarter σ) ≤ quarterMax
+  quarter-few-corners = omega (arith, count-first (quarter-chain σ τ), box-wide τ .1)
 
-  pub in-box : (C : Corner) → C ∈ quarter σ → (C .x ≤ 32) × (C .y ≤ 32)
-  in-box C m = (omega (arith, x-range (quarter-chain σ τ) C m .1, box-wide τ .1), omega (arith, y-range (quarter-chain σ τ) C m, box-high τ .1))
+  pub quarter-in-box : (C : Corner) → C ∈ quarter σ → (C .x ≤ 32) × (C .y ≤ 32)
+  quarter-in-box C m = (omega (arith, x-range (quarter-chain σ τ) C m .1, box-wide τ .1), omega (arith, y-range (quarter-chain σ τ) C m, box-high τ .1))
 
-  pub some : Cons (quarter σ)
-  some = some-of (box-wide τ .0) (quarter-chain σ τ)
+  pub quarter-cons : Cons (quarter σ)
+  quarter-cons = some-of (box-wide τ .0) (quarter-chain σ τ)
 
-  pub split-chain : Chain (Dx σ) (Dx σ) 1 0 0 (Dy σ) (some .first ∷ some .others)
-  split-chain = subst (Chain (Dx σ) (Dx σ) 1 0 0 (Dy σ)) (some .cons) (quarter-chain σ τ)
+  pub quarter-split : Chain (Dx σ) (Dx σ) 1 0 0 (Dy σ) (quarter-cons .first ∷ quarter-cons .others)
+  quarter-split = subst (Chain (Dx σ) (Dx σ) 1 0 0 (Dy σ)) (quarter-cons .cons) (quarter-chain σ τ)
 
-  pub lowest : some .first .y ≡ Dy σ
-  lowest = lowest-of (box-wide τ .0) split-chain
+  pub quarter-lowest : quarter-cons .first .y ≡ Dy σ
+  quarter-lowest = lowest-of (box-wide τ .0) quarter-split

@@ -45,11 +45,11 @@ pub record Round (D k pu pv a b : ℕ) (t : State) (s : Step) : Type 0 where
   pub cutting : (r : State) → s ≡ on r → Closer D k pu pv a b (total t) r
 
 -- the corners put out from t on, where s is its round and f more follow
-abbrev pub from : Setting → ℕ → State → Step → List Corner
-from σ f t s = elim s as (λ _. List Corner) [ ended ↦ [] | put r ↦ record { x = t .x; y = t .y } ∷ corners σ f r | on r ↦ corners σ f r ]
+abbrev pub corners-by-step : Setting → ℕ → State → Step → List Corner
+corners-by-step σ f t s = elim s as (λ _. List Corner) [ ended ↦ [] | put r ↦ record { x = t .x; y = t .y } ∷ corners σ f r | on r ↦ corners σ f r ]
 
-abbrev pub state : ℕ → ℕ → Edge → List Edge → State
-state x y L es = record { x = x; y = y; before = L; after = es }
+abbrev pub state-at : ℕ → ℕ → Edge → List Edge → State
+state-at x y L es = record { x = x; y = y; before = L; after = es }
 
 -- the end of R is the next corner
 passed-going :
@@ -63,26 +63,34 @@ passed-going {D} {y′} x y L R {rest} h r k =
       bottom = λ z. absurd (omega arith);
       turning = h;
       lies = slide-on (R .u) (R .v) (size R) x y (R .c) (omega (arith, r .down)) (r .line);
-      behind = record { right = r .right; up = omega (arith, r .up); level = zero-mul (R .v); long = omega (arith, r .long); turn = omega (arith, r .turn); across = refl; down = omega (arith, r .down) };
+      behind = record {
+        right = r .right;
+        up = omega (arith, r .up);
+        level = zero-mul (R .v);
+        long = omega (arith, r .long);
+        turn = omega (arith, r .turn);
+        across = refl;
+        down = omega (arith, r .down);
+      };
       ahead = subst (λ (z : ℕ). After D (R .u) (R .v) (x + size R * R .u) z rest) ey k;
     }
 
 passing :
     {D x y : ℕ} (L R : Edge) {rest : List Edge} → 1 ≤ L .u → 1 ≤ size L → After D (L .u) (L .v) x y (R ∷ rest) →
-    Passed D (state x y L (R ∷ rest)) (passed x y R rest)
+    Passed D (state-at x y L (R ∷ rest)) (passed x y R rest)
 unfolding sum
 passing L R h l (upright r) = record { less = omega arith; next = inl (refl, r .place) }
 passing {x = x} {y} L R h l (inner y′ r k) = record { less = omega arith; next = inr (passed-going x y L R h r k) }
 
 module _ (σ : Setting) {D k pu pv a b : ℕ} (x y : ℕ) (L : Edge) where
-  acting : (R : Edge) (rest : List Edge) → Going D k pu pv a b (state x y L (R ∷ rest)) → (n : ℕ) → Bounded L R n →
-      Round D k pu pv a b (state x y L (R ∷ rest)) (act n σ x y L R rest)
+  acting : (R : Edge) (rest : List Edge) → Going D k pu pv a b (state-at x y L (R ∷ rest)) → (n : ℕ) → Bounded L R n →
+      Round D k pu pv a b (state-at x y L (R ∷ rest)) (act n σ x y L R rest)
   unfolding sum
   acting R rest g zero h =
       let p = passing L R (g .behind .right) (g .behind .long) (g .ahead) in
       record {
         not-ended = λ e. let z : _≡_ {A = ℕ} 0 1 = cc in absurd (omega arith);
-        putting = λ r e. let i : passed x y R rest ≡ r = cc in subst (λ (r : State). Passed D (state x y L (R ∷ rest)) r) i p;
+        putting = λ r e. let i : passed x y R rest ≡ r = cc in subst (λ (r : State). Passed D (state-at x y L (R ∷ rest)) r) i p;
         cutting = λ r e. let z : _≡_ {A = ℕ} 0 1 = cc in absurd (omega arith);
       }
   acting R rest g (suc s) h =
@@ -93,7 +101,7 @@ module _ (σ : Setting) {D k pu pv a b : ℕ} (x y : ℕ) (L : Edge) where
         cutting = λ r e. let i : cut σ x y (suc s) L R rest ≡ r = cc in subst (λ (r : State). Closer D k pu pv a b (size L + (size R + sum rest)) r) i c;
       }
 
-  stepping : (es : List Edge) → Going D k pu pv a b (state x y L es) → After D (L .u) (L .v) x y es → Round D k pu pv a b (state x y L es) (stepAt es σ x y L)
+  stepping : (es : List Edge) → Going D k pu pv a b (state-at x y L es) → After D (L .u) (L .v) x y es → Round D k pu pv a b (state-at x y L es) (stepAt es σ x y L)
   stepping es g (upright {e = R} q) = acting R [] g (amount σ L R) (amount-bounded σ L R)
   stepping es g (inner y′ {e = R} {es = rest} q k) = acting R rest g (amount σ L R) (amount-bounded σ L R)
 

@@ -22,11 +22,11 @@ use Rattle.quarter.specs.Cutting.{Corner, State, size, amount, cutBy, cu
 use Rattle.quarter.specs.Steps.{Amount, none, some, Out, Cut, Puts, nothing, puts, cuts}
 use Rattle.quarter.specs.Moment.{total}
 use Rattle.setting.proofs.Limits.{box-wide, box-high}
-use Rattle.quarter.proofs.Naturals.{le-pos, diff, min-pos}
+use Rattle.quarter.proofs.Naturals.{le-pos, diff-pos, min-pos}
 use Rattle.quarter.proofs.NearRoot.{nearRoot-ok}
 use Rattle.quarter.proofs.Nearest.{retained-ok}
-use Rattle.quarter.proofs.Invariant.{After, upright, inner, Going, span}
-use Rattle.quarter.proofs.Rounds.{Bounded, amount-bounded, Passed, Round, round, from, state}
+use Rattle.quarter.proofs.Invariant.{After, upright, inner, Going, before-span}
+use Rattle.quarter.proofs.Rounds.{Bounded, amount-bounded, Passed, Round, round, corners-by-step, state-at}
 use Rattle.quarter.proofs.Progress.{first-going, first-total, corners-over}
 use Rattle.quarter.proofs.Sizes.{before-small, after-small, y-small}
 
@@ -45,9 +45,11 @@ module _ (σ : Setting) (L R : Edge) where
   reduced b c m eb ec near h r =
       let am : Amount σ L R (minZ (pos b) (pos c -ℤ pos m)) = rw (eb, ec) (some (omega arith) r) in
       record {
-        out = λ e. Out.spent near am (le-trans (minZ (pos b) (pos c -ℤ pos m)) (pos c -ℤ pos m) (pos 0) (min-r (pos b) (pos c -ℤ pos m)) (not-more (pos c) (pos m) (le-pos (omega arith))));
+        out = λ e.
+            let d = pos c -ℤ pos m in
+            Out.spent near am (le-trans (minZ (pos b) d) d (pos 0) (min-r (pos b) d) (not-more (pos c) (pos m) (le-pos (omega arith))));
         taken = λ s e.
-            let eq : minZ (pos b) (pos c -ℤ pos m) ≡ pos (suc s) = ap (λ (z : ℤ). minZ (pos b) z) (sym (diff c m (omega arith))) ∙ min-pos b (c - m) ∙ ap pos e in
+            let eq : minZ (pos b) (pos c -ℤ pos m) ≡ pos (suc s) = ap (λ (z : ℤ). minZ (pos b) z) (sym (diff-pos c m (omega arith))) ∙ min-pos b (c - m) ∙ ap pos e in
             (near, subst (Amount σ L R) eq am);
       }
 
@@ -101,19 +103,19 @@ module _ (σ : Setting) (τ : Taken σ) where
   ]
 
   acting :
-      (f : ℕ) → Ends f → {k pu pv a b : ℕ} (x y : ℕ) (L R : Edge) (rest : List Edge) → b ≤ 32 → Going (Dx σ) k pu pv a b (state x y L (R ∷ rest)) →
-      total (state x y L (R ∷ rest)) ≤ suc f → (n : ℕ) → Bounded L R n → Told σ L R n →
-      Round (Dx σ) k pu pv a b (state x y L (R ∷ rest)) (act n σ x y L R rest) →
-      Puts σ x y L (R ∷ rest) (from σ f (state x y L (R ∷ rest)) (act n σ x y L R rest))
+      (f : ℕ) → Ends f → {k pu pv a b : ℕ} (x y : ℕ) (L R : Edge) (rest : List Edge) → b ≤ 32 → Going (Dx σ) k pu pv a b (state-at x y L (R ∷ rest)) →
+      total (state-at x y L (R ∷ rest)) ≤ suc f → (n : ℕ) → Bounded L R n → Told σ L R n →
+      Round (Dx σ) k pu pv a b (state-at x y L (R ∷ rest)) (act n σ x y L R rest) →
+      Puts σ x y L (R ∷ rest) (corners-by-step σ f (state-at x y L (R ∷ rest)) (act n σ x y L R rest))
   acting f rec x y L R rest hb g h zero d t c =
-      puts (t .out refl) (passing f rec (state x y L (R ∷ rest)) _ (omega (arith, g .behind .down)) (c .putting _ refl) h)
+      puts (t .out refl) (passing f rec (state-at x y L (R ∷ rest)) _ (omega (arith, g .behind .down)) (c .putting _ refl) h)
   acting f rec {k} {pu} {pv} {a} {b} x y L R rest hb g h (suc s) d t c =
       let w = t .taken s refl in
       let r = c .cutting _ refl in
-      cuts (w .0) (w .1) (cut-told σ τ x y (suc s) L R rest (g .behind .right) (span L (suc s) (d .left) (g .behind)) (d .offset))
+      cuts (w .0) (w .1) (cut-told σ τ x y (suc s) L R rest (g .behind .right) (before-span L (suc s) (d .left) (g .behind)) (d .offset))
       (rec (cut σ x y (suc s) L R rest) k pu pv a b hb (r .going) (omega (arith, r .less)))
 
-  told : {k pu pv a b : ℕ} (x y : ℕ) (L R : Edge) (rest : List Edge) → b ≤ 32 → Going (Dx σ) k pu pv a b (state x y L (R ∷ rest)) → Told σ L R (amount σ L R)
+  told : {k pu pv a b : ℕ} (x y : ℕ) (L R : Edge) (rest : List Edge) → b ≤ 32 → Going (Dx σ) k pu pv a b (state-at x y L (R ∷ rest)) → Told σ L R (amount σ L R)
   told x y L R rest hb g =
       let hd = box-wide τ .1 in
       let l = before-small hd hb g in
@@ -121,9 +123,9 @@ module _ (σ : Setting) (τ : Taken σ) where
       amount-told σ L R τ (g .behind .right) (l .u-small) (l .v-small) (r .u-small) (r .v-small)
 
   stepping :
-      (f : ℕ) → Ends f → {k pu pv a b : ℕ} (x y : ℕ) (L : Edge) (es : List Edge) → b ≤ 32 → Going (Dx σ) k pu pv a b (state x y L es) →
-      total (state x y L es) ≤ suc f → Round (Dx σ) k pu pv a b (state x y L es) (stepAt es σ x y L) → After (Dx σ) (L .u) (L .v) x y es →
-      Puts σ x y L es (from σ f (state x y L es) (stepAt es σ x y L))
+      (f : ℕ) → Ends f → {k pu pv a b : ℕ} (x y : ℕ) (L : Edge) (es : List Edge) → b ≤ 32 → Going (Dx σ) k pu pv a b (state-at x y L es) →
+      total (state-at x y L es) ≤ suc f → Round (Dx σ) k pu pv a b (state-at x y L es) (stepAt es σ x y L) → After (Dx σ) (L .u) (L .v) x y es →
+      Puts σ x y L es (corners-by-step σ f (state-at x y L es) (stepAt es σ x y L))
   stepping f rec x y L es hb g h c (upright {e = R} q) = acting f rec x y L R [] hb g h (amount σ L R) (amount-bounded σ L R) (told x y L R [] hb g) c
   stepping f rec x y L es hb g h c (inner y′ {e = R} {es = rest} q k) = acting f rec x y L R rest hb g h (amount σ L R) (amount-bounded σ L R) (told x y L R rest hb g) c
 

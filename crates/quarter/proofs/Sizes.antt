@@ -4,6 +4,7 @@ use mathlib.Core.Path.{_≡_, subst}
 use mathlib.Core.List.{List, _∷_}
 use native.Mathlib.Nat.{mul-le-mul, mul-comm}
 use native.Mathlib.Omega.{arith}
+use Rattle.limits.specs.Sizes.{quarterMax}
 use Rattle.setting.specs.declared.Setting.{Setting}
 use Rattle.quarter.specs.declared.Edge.{Edge}
 use Rattle.setting.specs.Setting.{Taken, Dx}
@@ -11,7 +12,7 @@ use Rattle.quarter.specs.Cutting.{Corner, State, size, amount}
 use Rattle.quarter.specs.Moment.{Moment, cuts, cornersAt, Small, Ready}
 use Rattle.setting.proofs.Limits.{box-wide}
 use Rattle.quarter.proofs.Chain.{Link}
-use Rattle.quarter.proofs.Invariant.{After, upright, inner, Going, after-reach, after-few, room, span}
+use Rattle.quarter.proofs.Invariant.{After, upright, inner, Going, after-reach, after-few, after-room, before-span}
 use Rattle.quarter.proofs.Rounds.{amount-bounded}
 use Rattle.quarter.proofs.Progress.{Stage, way, over, progress, out-few}
 use Rattle.quarter.proofs.Slope.{times-one}
@@ -81,10 +82,10 @@ after-small {x = x} {y} hd hy (inner y′ {e = R} r k) =
     }
 
 module _ (σ : Setting) (τ : Taken σ) where
-  pub at-most : {out : List Corner} {t : State} → Moment σ out t → cornersAt out t ≤ 33
-  at-most {out} {t} m = go (progress σ τ m .stage)
+  pub corners-at-most : {out : List Corner} {t : State} → Moment σ out t → cornersAt out t ≤ quarterMax
+  corners-at-most {out} {t} m = go (progress σ τ m .stage)
     where
-      go : Stage σ out t → cornersAt out t ≤ 33
+      go : Stage σ out t → cornersAt out t ≤ quarterMax
       go (way g hb few) = omega (arith, out-few out g few, after-few (g .ahead), box-wide τ .1)
       go (over e few) = rw e (omega (arith, box-wide τ .1))
 
@@ -104,15 +105,15 @@ module _ (σ : Setting) (τ : Taken σ) where
         cuttable = record {
           left = s .left;
           right = s .right;
-          across = span L (amount σ L R) (s .left) (g .behind);
-          down = room (amount σ L R) (s .right) q;
+          across = before-span L (amount σ L R) (s .left) (g .behind);
+          down = after-room (amount σ L R) (s .right) q;
           offset = s .offset;
         };
-        room = λ r e. omega (arith, at-most (cuts m e));
+        room = λ r e. omega (arith, corners-at-most (cuts m e));
       }
 
-  pub ready : {out : List Corner} {t : State} {R : Edge} {rest : List Edge} → Moment σ out t → t .after ≡ R ∷ rest → Ready σ t R
-  ready {out} {t} {R} {rest} m e = go (progress σ τ m .stage)
+  pub moment-ready : {out : List Corner} {t : State} {R : Edge} {rest : List Edge} → Moment σ out t → t .after ≡ R ∷ rest → Ready σ t R
+  moment-ready {out} {t} {R} {rest} m e = go (progress σ τ m .stage)
     where
       go : Stage σ out t → Ready σ t R
       go (way g hb few) = ready-way m g hb (subst (After (Dx σ) (t .before .u) (t .before .v) (t .x) (t .y)) e (g .ahead))

@@ -2,8 +2,8 @@
 use Rattle.quarter.specs.Theorems.{NearRootHolds, NearRootUnique, StepsFall, QuarterPuts, AtMost33, EndsWithQuarter, NothingBelowZero, QuarterFew, QuarterBox}
 use Rattle.quarter.proofs.NearRoot.{nearRoot-ok, nearRoot-one}
 use Rattle.quarter.proofs.Progress.{falls-put, falls-on, ends-with}
-use Rattle.quarter.proofs.Sizes.{at-most, ready}
-use Rattle.quarter.proofs.Ranges.{few-corners, in-box}
+use Rattle.quarter.proofs.Sizes.{corners-at-most, moment-ready}
+use Rattle.quarter.proofs.Ranges.{quarter-few-corners, quarter-in-box}
 use Rattle.quarter.proofs.Rules.{puts-quarter}
 
 pub near-root-holds : NearRootHolds
@@ -19,16 +19,16 @@ pub quarter-puts : QuarterPuts
 quarter-puts = puts-quarter
 
 pub at-most-33 : AtMost33
-at-most-33 σ τ out t m = at-most σ τ m
+at-most-33 σ τ out t m = corners-at-most σ τ m
 
 pub ends-with-quarter : EndsWithQuarter
 ends-with-quarter σ τ out t m e = ends-with σ τ m e
 
 pub nothing-below-zero : NothingBelowZero
-nothing-below-zero σ τ out t m R rest e = ready σ τ m e
+nothing-below-zero σ τ out t m R rest e = moment-ready σ τ m e
 
 pub quarter-few : QuarterFew
-quarter-few = few-corners
+quarter-few = quarter-few-corners
 
 pub quarter-box : QuarterBox
-quarter-box = in-box
+quarter-box = quarter-in-box

@@ -4,6 +4,7 @@ use mathlib.Core.Bool.{true, false}
 use mathlib.Core.List.{List, [], _++_, map}
 use lib.ListN.{length, replicate}
 use lib.IntN.{ℤ, pos, negℤ}
+use Rattle.limits.specs.Sizes.{quarterMax}
 use Rattle.setting.specs.declared.Setting.{Setting}
 use Rattle.setting.specs.Setting.{taken}
 use Rattle.quarter.specs.declared.Quarter.{Quarter}
@@ -21,7 +22,7 @@ abbrev pub upwards : Corner → ℤ
 upwards c = negℤ (pos (c .y))
 
 abbrev pub quarterOf : List Corner → Quarter
-quarterOf cs = record { count = length cs; x = laid 33 (map across cs); y = laid 33 (map upwards cs) }
+quarterOf cs = record { count = length cs; x = laid quarterMax (map across cs); y = laid quarterMax (map upwards cs) }
 
 -- the quarter's corners, where the setting is within the limits
 unfoldable pub cornered : Setting → Quarter

@@ -60,6 +60,10 @@ retained σ u v c x s =
     let n = norm σ u v in
     min s ((2 * (σ .p * σ .p * v * c - x * n) + u * n) / (2 * (u * n)))
 
+-- the same for the new edge that cuts s off the corner at x between L and R, which starts s directions back along L
+abbrev pub retainedAt : Setting → ℕ → ℕ → Edge → Edge → ℕ
+retainedAt σ x s L R = retained σ (L .u + R .u) (L .v + R .v) (L .c + R .c - s) (x - s * L .u) s
+
 -- Steps 3 and 4, where s is all of L and all of R; all of L alone; all of R alone; neither. The edge "runs from s directions back along L to s
 -- directions on along R", and the next corner is the first that is not out: the new edge's end where L is gone, its start where L is left.
 abbrev pub cutBoth : ℕ → ℕ → ℕ → Edge → Edge → List Edge → State
@@ -82,7 +86,7 @@ abbrev pub cutBy : Bool → Bool → Setting → ℕ → ℕ → ℕ → Edge �
 cutBy true true σ x y s L R rest = cutBoth x y s L R rest
 cutBy true false σ x y s L R rest = cutLeft x y s L R rest
 cutBy false true σ x y s L R rest = cutRight x y s L R rest
-cutBy false false σ x y s L R rest = cutNew x y s (retained σ (L .u + R .u) (L .v + R .v) (L .c + R .c - s) (x - s * L .u) s) L R rest
+cutBy false false σ x y s L R rest = cutNew x y s (retainedAt σ x s L R) L R rest
 
 -- "Where s was all of L (l1 + l2 before the cut) ..; otherwise, where s was all of R .."
 abbrev pub cut : Setting → ℕ → ℕ → ℕ → Edge → Edge → List Edge → State

@@ -6,7 +6,7 @@ use lib.Dec.{leb}
 use mathlib.Core.Path.{_≡_}
 use mathlib.Core.List.{List, _∷_}
 use lib.ListN.{set}
-use lib.IntN.{ℤ, pos, negℤ}
+use lib.IntN.{ℤ}
 use Rattle.setting.specs.declared.Setting.{Setting}
 use Rattle.quarter.specs.declared.Edge.{Edge}
 use Rattle.quarter.specs.declared.Work.{Work}
@@ -29,6 +29,11 @@ state t rest = record { x = t .x; y = t .y; before = t .before; after = front (t
 pub record Leads (n : Work) (to : List Edge → State) : Type 0 where
   pub few : n .more ≤ 2
   pub is : (rest : List Edge) → state n rest ≡ to rest
+
+-- the sum of the directions of two small edges
+pub record Summed (u v : ℕ) : Type 0 where
+  pub u-small : u ≤ 64
+  pub v-small : v ≤ 64
 
 -- the corner can be cut by d, r being the edge after it
 pub record Room (t : Work) (r : Edge) (d : ℕ) : Type 0 where

@@ -3,6 +3,7 @@ use Prim.Native.Nat.{ℕ, _+_, _*_, _≤_}
 use mathlib.Core.Path.{_≡_}
 use mathlib.Core.List.{List, [], _∷_, _++_}
 use lib.ListN.{length}
+use Rattle.limits.specs.Sizes.{quarterMax}
 use Rattle.setting.specs.declared.Setting.{Setting}
 use Rattle.quarter.specs.declared.Edge.{Edge}
 use Rattle.quarter.specs.Cutting.{Corner, State, size, first, amount, step, put, on}
@@ -48,4 +49,4 @@ pub record Ready (σ : Setting) (t : State) (R : Edge) : Type 0 where
   pub after : Small R
   pub rightward : 1 ≤ t .before .u
   pub cuttable : Cuttable (t .x) (t .y) (amount σ (t .before) R) (t .before) R
-  pub room : (r : State) → step σ t ≡ on r → length (r .after) ≤ 33
+  pub room : (r : State) → step σ t ≡ on r → length (r .after) ≤ quarterMax

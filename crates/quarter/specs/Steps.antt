@@ -4,7 +4,6 @@ use Prim.Native.Nat.{ℕ, suc, _+_, _*_, _≤_, _<_, min}
 use mathlib.Core.Path.{_≡_}
 use mathlib.Core.List.{List, [], _∷_}
 use lib.IntN.{ℤ, pos, _+ℤ_, _-ℤ_, _*ℤ_}
-use lib.Signed.{_≤ℤ_}
 use Rattle.integers.specs.Orders.{_≼_, _≺_}
 use Rattle.integers.specs.Compare.{minZ, maxZ}
 use Rattle.setting.specs.declared.Setting.{Setting}

@@ -4,6 +4,7 @@ use mathlib.Core.Path.{_≡_}
 use mathlib.Core.List.{List, [], _∷_}
 use lib.ListN.{length}
 use Rattle.integers.specs.Count.{_∈_}
+use Rattle.limits.specs.Sizes.{quarterMax}
 use Rattle.setting.specs.declared.Setting.{Setting}
 use Rattle.setting.specs.Setting.{Taken}
 use Rattle.quarter.specs.declared.Edge.{Edge}
@@ -21,7 +22,8 @@ NearRootUnique = (σ : Setting) → Taken σ → (u v m n : ℕ) → NearRoot σ
 
 -- the steps end: each round takes something off a sum that starts at 2Dx + 2Dy
 abbrev pub StepsFall : Type 0
-StepsFall = (σ : Setting) → Taken σ → (out : List Corner) (t : State) → Moment σ out t → ((r : State) → step σ t ≡ put r → total r < total t) × ((r : State) → step σ t ≡ on r → total r < total t)
+StepsFall = (σ : Setting) → Taken σ → (out : List Corner) (t : State) → Moment σ out t →
+    ((r : State) → step σ t ≡ put r → total r < total t) × ((r : State) → step σ t ≡ on r → total r < total t)
 
 -- the quarter is what document 01's steps put out
 abbrev pub QuarterPuts : Type 0
@@ -29,7 +31,7 @@ QuarterPuts = (σ : Setting) → Taken σ → Puts σ (first σ .x) (first σ .y
 
 -- at every moment there are at most 33 corners, and where no edge is left those put out are the quarter
 abbrev pub AtMost33 : Type 0
-AtMost33 = (σ : Setting) → Taken σ → (out : List Corner) (t : State) → Moment σ out t → cornersAt out t ≤ 33
+AtMost33 = (σ : Setting) → Taken σ → (out : List Corner) (t : State) → Moment σ out t → cornersAt out t ≤ quarterMax
 
 abbrev pub EndsWithQuarter : Type 0
 EndsWithQuarter = (σ : Setting) → Taken σ → (out : List Corner) (t : State) → Moment σ out t → t .after ≡ [] → out ≡ quarter σ
@@ -40,7 +42,7 @@ NothingBelowZero = (σ : Setting) → Taken σ → (out : List Corner) (t : Stat
 
 -- the quarter's corners are at most 33, and lie in the box
 abbrev pub QuarterFew : Type 0
-QuarterFew = (σ : Setting) → Taken σ → length (quarter σ) ≤ 33
+QuarterFew = (σ : Setting) → Taken σ → length (quarter σ) ≤ quarterMax
 
 abbrev pub QuarterBox : Type 0
 QuarterBox = (σ : Setting) → Taken σ → (c : Corner) → c ∈ quarter σ → (c .x ≤ 32) × (c .y ≤ 32)

@@ -6,12 +6,14 @@ use crate::cut::amount;
 use crate::cut::step;
 use crate::size::height;
 use crate::size::width;
+use limits::QUARTER_MAX;
 use setting::Setting;
 ghost use mathlib.Core.Path.{_≡_};
 ghost use mathlib.Core.List.{[]};
 ghost use Prim.Native.Nat.{_≤_, _<_};
 ghost use lib.IntN.{pos, negℤ};
-ghost use Rattle.setting.specs.Setting.{Taken, Dx, Dy};
+ghost use Rattle.limits.specs.Sizes.{quarterMax};
+ghost use Rattle.setting.specs.Setting.{Taken};
 ghost use Rattle.quarter.specs.Cutting.{first, quarter};
 ghost use Rattle.quarter.specs.Answer.{quarterOf};
 ghost use Rattle.quarter.specs.Held.{state, putOut};
@@ -19,7 +21,8 @@ ghost use Rattle.quarter.specs.Held.{state, putOut};
 // The start: the lower right corner of the rectangle, between its bottom and its right side.
 fn begin(s: Setting) -> Work
     requires { ⌜ Taken s ⌝ }
-    ensures { λ t. ⌜ state t [] ≡ first s ⌝ ∗ ⌜ t .more ≡ 1 ⌝ }
+    ensures start { λ t. ⌜ state t [] ≡ first s ⌝ }
+    ensures upright { λ t. ⌜ t .more ≡ 1 ⌝ }
 {
     let dx = width(s);
     let dy = height(s);
@@ -51,14 +54,16 @@ pub fn none() -> Quarter
 {
     Quarter {
         count: 0,
-        x: [0; 33],
-        y: [0; 33],
+        x: [0; QUARTER_MAX],
+        y: [0; QUARTER_MAX],
     }
 }
 
 // The corner (x, y) is put out, its y upwards, unless it is cut by d.
 fn put(q: Quarter, d: u64, x: u64, y: u64) -> Quarter
-    requires { ⌜ q .count < 33 ⌝ ∗ ⌜ x ≤ 32 ⌝ ∗ ⌜ y ≤ 32 ⌝ }
+    requires place { ⌜ q .count < quarterMax ⌝ }
+    requires across { ⌜ x ≤ 32 ⌝ }
+    requires down { ⌜ y ≤ 32 ⌝ }
     ensures { λ r. ⌜ r ≡ putOut d q (pos x) (negℤ (pos y)) ⌝ }
 {
     if 0 < d {
@@ -72,6 +77,9 @@ fn put(q: Quarter, d: u64, x: u64, y: u64) -> Quarter
     r
 }
 
+// The places of the stack of edges: one more than there are corners, so that one lies before `top`.
+const STACK: usize = QUARTER_MAX + 1;
+
 // The rounds, until no edge is left after the corner. The edges after it are a stack from `top` to
 // the array's end; what lies before `top` does not count, so that `new` may be stored there always.
 pub fn quarter(s: Setting) -> Quarter
@@ -80,10 +88,10 @@ pub fn quarter(s: Setting) -> Quarter
 {
     let mut t = begin(s);
     let upright = t.last;
-    let mut after = [upright; 34];
-    let mut top: usize = 33;
+    let mut after = [upright; STACK];
+    let mut top = QUARTER_MAX;
     let mut q = none();
-    while top < 34 {
+    while top < STACK {
         let r = after[top];
         let d = amount(s, t.before, r);
         q = put(q, d, t.x, t.y);

@@ -3,19 +3,14 @@ use crate::Edge;
 use crate::Work;
 use crate::root::near_root;
 use crate::root::norm;
+use integers::min_u64;
 use setting::Setting;
 ghost use mathlib.Core.Path.{_≡_};
-ghost use Prim.Native.Nat.{_+_, _-_, _*_, _≤_, _<_, min};
+ghost use Prim.Native.Nat.{_+_, _-_, _*_, _≤_};
 ghost use Rattle.setting.specs.Setting.{Taken};
-ghost use Rattle.quarter.specs.Cutting.{amount, retained, size, cutEdge, shortL, shortR, cutBoth, cutLeft, cutRight, cutNew, cut, passed};
+ghost use Rattle.quarter.specs.Cutting.{amount, retained, retainedAt, cutEdge, shortL, shortR, cutBoth, cutLeft, cutRight, cutNew, cut, passed};
 ghost use Rattle.quarter.specs.Moment.{Small};
-ghost use Rattle.quarter.specs.Held.{Room, Leads, Stepped};
-
-pub fn least(a: u64, b: u64) -> u64
-    ensures { λ r. ⌜ r ≡ min a b ⌝ }
-{
-    if a < b { a } else { b }
-}
+ghost use Rattle.quarter.specs.Held.{Summed, Room, Leads, Stepped};
 
 // a - b, and 0 where that is negative.
 pub fn minus(a: u64, b: u64) -> u64
@@ -26,13 +21,15 @@ pub fn minus(a: u64, b: u64) -> u64
 
 // Steps 1 and 2: by how much the corner between l and r is cut; 0 where it is put out.
 pub fn amount(s: Setting, l: Edge, r: Edge) -> u64
-    requires { ⌜ Taken s ⌝ ∗ ⌜ Small l ⌝ ∗ ⌜ Small r ⌝ }
+    requires setting { ⌜ Taken s ⌝ }
+    requires left { ⌜ Small l ⌝ }
+    requires right { ⌜ Small r ⌝ }
     ensures { λ a. ⌜ a ≡ amount s l r ⌝ }
 {
     if 1 + l.v * r.u < l.u * r.v {
         return 0;
     }
-    let shorter = least(l.l2, r.l1);
+    let shorter = min_u64(l.l2, r.l1);
     let whole = l.c + r.c;
     // A root further down than the shorter count allows, or past the offsets, is as good as theirs.
     let root = near_root(s, l.u + r.u, l.v + r.v, minus(whole, shorter), whole);
@@ -42,17 +39,23 @@ pub fn amount(s: Setting, l: Edge, r: Edge) -> u64
 // Step 4: how far after its start, at the abscissa x, the retained point of a new edge lies, which
 // has the direction (u, v) and the offset c and is d directions long.
 fn retained(s: Setting, u: u64, v: u64, c: u64, x: u64, d: u64) -> u64
-    requires { ⌜ Taken s ⌝ ∗ ⌜ (1 ≤ u) × (u ≤ 64) × (v ≤ 64) ⌝ ∗ ⌜ c ≤ 8192 ⌝ ∗ ⌜ x ≤ 32 ⌝ }
+    requires setting { ⌜ Taken s ⌝ }
+    requires rightward { ⌜ 1 ≤ u ⌝ }
+    requires summed { ⌜ Summed u v ⌝ }
+    requires offset { ⌜ c ≤ 8192 ⌝ }
+    requires across { ⌜ x ≤ 32 ⌝ }
     ensures { λ l. ⌜ l ≡ retained s u v c x d ⌝ }
 {
     let n = norm(s, u, v);
     let above = minus(s.p * s.p * v * c, x * n);
-    least(d, (2 * above + u * n) / (2 * (u * n)))
+    min_u64(d, (2 * above + u * n) / (2 * (u * n)))
 }
 
 // Step 3: the edge of the summed direction that cuts d off the corner between l and r.
 fn edge_of(l: Edge, r: Edge, d: u64, l1: u64, l2: u64) -> Edge
-    requires { ⌜ Small l ⌝ ∗ ⌜ Small r ⌝ ∗ ⌜ d ≤ l .c + r .c ⌝ }
+    requires left { ⌜ Small l ⌝ }
+    requires right { ⌜ Small r ⌝ }
+    requires offset { ⌜ d ≤ l .c + r .c ⌝ }
     ensures { λ e. ⌜ e ≡ cutEdge l r d l1 l2 ⌝ }
 {
     Edge {
@@ -130,8 +133,9 @@ fn cut_right(t: Work, r: Edge, d: u64) -> Work
 
 // Step 4, where something is left of both: a new edge between them.
 fn cut_new(s: Setting, t: Work, r: Edge, d: u64) -> Work
-    requires { ⌜ Taken s ⌝ ∗ ⌜ Room t r d ⌝ }
-    ensures { λ n. ⌜ Leads n (cutNew (t .x) (t .y) d (retained s (t .before .u + r .u) (t .before .v + r .v) (t .before .c + r .c - d) (t .x - d * t .before .u) d) (t .before) r) ⌝ }
+    requires setting { ⌜ Taken s ⌝ }
+    requires room { ⌜ Room t r d ⌝ }
+    ensures { λ n. ⌜ Leads n (cutNew (t .x) (t .y) d (retainedAt s (t .x) d (t .before) r) (t .before) r) ⌝ }
 {
     let l = t.before;
     let x = t.x - d * l.u;
@@ -151,7 +155,8 @@ fn cut_new(s: Setting, t: Work, r: Edge, d: u64) -> Work
 
 // Steps 3 and 4: the corner is cut by d.
 fn cut(s: Setting, t: Work, r: Edge, d: u64) -> Work
-    requires { ⌜ Taken s ⌝ ∗ ⌜ Room t r d ⌝ }
+    requires setting { ⌜ Taken s ⌝ }
+    requires room { ⌜ Room t r d ⌝ }
     ensures { λ n. ⌜ Leads n (cut s (t .x) (t .y) d (t .before) r) ⌝ }
 {
     let l = t.before;
@@ -170,7 +175,8 @@ fn cut(s: Setting, t: Work, r: Edge, d: u64) -> Work
 // Step 5: the corner is put out; r drops its retained point, and its end is the next corner. (Past
 // the last corner there is none, and y is 0.)
 fn passed(t: Work, r: Edge) -> Work
-    requires { ⌜ Small r ⌝ ∗ ⌜ t .x ≤ 32 ⌝ }
+    requires right { ⌜ Small r ⌝ }
+    requires across { ⌜ t .x ≤ 32 ⌝ }
     ensures { λ n. ⌜ Leads n (passed (t .x) (t .y) r) ⌝ }
 {
     let size = r.l1 + r.l2;
@@ -187,7 +193,8 @@ fn passed(t: Work, r: Edge) -> Work
 
 // The corner is cut by d, or put out where d is 0.
 pub fn step(s: Setting, t: Work, r: Edge, d: u64) -> Work
-    requires { ⌜ Taken s ⌝ ∗ ⌜ Room t r d ⌝ }
+    requires setting { ⌜ Taken s ⌝ }
+    requires room { ⌜ Room t r d ⌝ }
     ensures { λ n. ⌜ Stepped s t r d n ⌝ }
 {
     if d == 0 {

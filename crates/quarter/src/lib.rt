@@ -3,6 +3,7 @@
 // The way of the data: the setting is checked, the pen's size gives the first corner (size), the corner nearest the bottom
 // is cut by steps 1 to 5 (cut, which asks for near roots: root) until it is put out, and so on
 // until no corner is left (corners). What each function promises is cited from specs/.
+use limits::QUARTER_MAX;
 use setting::Checked;
 use setting::Setting;
 ghost use mathlib.Core.Path.{_≡_};
@@ -39,8 +40,8 @@ pub struct Work {
 // The corners of the lower right quarter from the bottom, in half pixels, y upwards.
 pub struct Quarter {
     pub count: usize,
-    pub x: [i8; 33],
-    pub y: [i8; 33],
+    pub x: [i8; QUARTER_MAX],
+    pub y: [i8; QUARTER_MAX],
 }
 
 // The quarter of a setting; it has no corners where the setting is outside the limits.

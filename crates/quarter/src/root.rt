@@ -4,12 +4,14 @@ ghost use mathlib.Core.Path.{_≡_};
 ghost use Prim.Native.Nat.{_≤_, _<_, min, max};
 ghost use Rattle.setting.specs.Setting.{Taken};
 ghost use Rattle.quarter.specs.NearRoot.{norm, nearRoot, lower};
-ghost use Rattle.quarter.specs.Held.{halved};
+ghost use Rattle.quarter.specs.Held.{Summed, halved};
 
-// p²v² + q²u²
+// p²v² + q²u²; with p and q at most 16 that is at most 2 * 16² * 64².
 pub fn norm(s: Setting, u: u64, v: u64) -> u64
-    requires { ⌜ Taken s ⌝ ∗ ⌜ u ≤ 64 ⌝ ∗ ⌜ v ≤ 64 ⌝ }
-    ensures { λ r. ⌜ r ≡ norm s u v ⌝ ∗ ⌜ r ≤ 2097152 ⌝ }
+    requires setting { ⌜ Taken s ⌝ }
+    requires summed { ⌜ Summed u v ⌝ }
+    ensures norm { λ r. ⌜ r ≡ norm s u v ⌝ }
+    ensures small { λ r. ⌜ r ≤ 2097152 ⌝ }
 {
     s.p * s.p * (v * v) + s.q * s.q * (u * u)
 }
@@ -23,7 +25,9 @@ pub struct Interval {
 // One try: the near root is at the middle value or after it where the square there is low enough,
 // and otherwise before it.
 fn halved(s: Setting, square: u64, i: Interval) -> Interval
-    requires { ⌜ Taken s ⌝ ∗ ⌜ i .low < i .high ⌝ ∗ ⌜ i .high ≤ 8192 ⌝ }
+    requires setting { ⌜ Taken s ⌝ }
+    requires left { ⌜ i .low < i .high ⌝ }
+    requires small { ⌜ i .high ≤ 8192 ⌝ }
     ensures { λ r. ⌜ r ≡ halved (lower s) square i ⌝ }
 {
     let middle = (i.low + i.high + 1) / 2;
@@ -41,8 +45,12 @@ fn halved(s: Setting, square: u64, i: Interval) -> Interval
 }
 
 // The near root of (u, v), brought into low..high: the interval is halved until one value is left.
+// An edge's offset is at most 4096, so what is sought for two of them is at most 8192.
 pub fn near_root(s: Setting, u: u64, v: u64, low: u64, high: u64) -> u64
-    requires { ⌜ Taken s ⌝ ∗ ⌜ u ≤ 64 ⌝ ∗ ⌜ v ≤ 64 ⌝ ∗ ⌜ low ≤ high ⌝ ∗ ⌜ high ≤ 8192 ⌝ }
+    requires setting { ⌜ Taken s ⌝ }
+    requires summed { ⌜ Summed u v ⌝ }
+    requires ordered { ⌜ low ≤ high ⌝ }
+    requires small { ⌜ high ≤ 8192 ⌝ }
     ensures { λ r. ⌜ r ≡ max low (min high (nearRoot s u v)) ⌝ }
 {
     let square = s.w * s.w * norm(s, u, v);

@@ -1,13 +1,13 @@
 -- What a row call answers and leaves where the list of runs is lent as records: the plain call's answer, over the numbers of the records.
-use Prim.Native.Nat.{ℕ, _*_}
+use Prim.Native.Nat.{ℕ, _*_, _/_}
 use mathlib.Core.Bool.{cond}
 use mathlib.Core.List.{List, [], _∷_, _++_}
 use lib.Dec.{leb}
 use lib.ListN.{take, drop}
 use lib.IntN.{ℤ}
+use Rattle.limits.specs.Sizes.{rasterMax}
 use Rattle.aperture.specs.declared.Table.{Table}
-use Rattle.checks.specs.declared.Answer.{Answer}
-use Rattle.checks.specs.Answer as plain
+use Rattle.checks.specs.Answer.{Result}
 use Rattle.row.specs.Calls.{rowCall}
 use Rattle.records.specs.declared.Run.{Run}
 
@@ -22,21 +22,20 @@ pairs [] = []
 pairs (a ∷ []) = []
 pairs (a ∷ b ∷ l) = record { left = a; right = b } ∷ pairs l
 
--- the answer, and the records at exit
-pub record Result : Type 0 where
-  pub answer : Answer
-  pub records : List Run
-
-abbrev pub asRecords : plain.Result → Result
-asRecords r = record { answer = r .answer; records = pairs (r .list) }
+abbrev pub asRecords : Result ℕ → Result Run
+asRecords r = record { answer = r .answer; list = pairs (r .list) }
 
 -- "The list of runs is lent as records of a left and a right column"
-unfoldable pub recordsCall : Table → ℕ → List ℤ → ℕ → ℕ → ℕ → List Run → Result
+unfoldable pub recordsCall : Table → ℕ → List ℤ → ℕ → ℕ → ℕ → List Run → Result Run
 recordsCall t n path columns rows j o = asRecords (rowCall t n path columns rows j (numbers o))
+
+-- runs lie apart, so that a row has at most half as many as a raster has columns
+abbrev pub runsMax : ℕ
+runsMax = rasterMax / 2
 
 -- how many numbers the runs of a row need, for a list of so many records
 abbrev pub entries : ℕ → ℕ
-entries room = cond (leb room 8192) (2 * room) 16384
+entries room = cond (leb room runsMax) (2 * room) rasterMax
 
 -- the first n records are those of a plain list; those after them are unchanged
 abbrev pub written : ℕ → List ℕ → List Run → List Run

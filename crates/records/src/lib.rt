@@ -8,6 +8,7 @@ use checks::Answer;
 ghost use mathlib.Core.Path.{_≡_};
 ghost use Prim.Native.Nat.{_*_, _≤_};
 ghost use lib.ListN.{length, take};
+ghost use Rattle.limits.specs.Sizes.{rasterMax};
 ghost use Rattle.row.specs.Calls.{rowCall};
 ghost use Rattle.records.specs.Records.{entries, written, recordsCall};
 
@@ -17,15 +18,17 @@ pub struct Run {
     pub right: u16,
 }
 
-// How many numbers the runs of a row need, for a list of so many records: no row has more than 8,192
-// runs.
+// Runs lie apart, so that a row has at most half as many as a raster has columns.
+const RUNS_MAX: usize = limits::RASTER_MAX / 2;
+
+// How many numbers the runs of a row need, for a list of so many records.
 fn entries(room: usize) -> usize
     ensures { λ r. ⌜ r ≡ entries room ⌝ }
 {
-    if room <= 8192 {
+    if room <= RUNS_MAX {
         return 2 * room;
     }
-    16384
+    limits::RASTER_MAX
 }
 
 // The plain answer for a list of so many records. The list of numbers is the caller's, so that it is
@@ -40,8 +43,9 @@ fn flat_runs(
     room: usize,
     list: &mut [u16],
 ) -> Answer
-    requires { ⌜ length (now list) ≡ 16384 ⌝ }
-    ensures { λ r. ⌜ record { answer = r; list = take (entries room) (now (list .exit)) } ≡ rowCall table number (now (path .entry)) columns rows row (take (entries room) (now (list .entry))) ⌝ }
+    requires { ⌜ length (now list) ≡ rasterMax ⌝ }
+    ensures { λ r. ⌜ record { answer = r; list = take (entries room) (now (list .exit)) }
+        ≡ rowCall table number (now (path .entry)) columns rows row (take (entries room) (now (list .entry))) ⌝ }
 {
     let n = entries(room);
     row::row_runs(table, number, path, columns, rows, row, &mut list[..n])
@@ -49,7 +53,8 @@ fn flat_runs(
 
 // The first records, of the numbers of a plain list; the records after them stay.
 fn write(plain: &[u16], count: usize, out: &mut [Run])
-    requires { ⌜ (2 * count ≤ length (now plain)) × (count ≤ length (now out)) ⌝ }
+    requires numbers { ⌜ 2 * count ≤ length (now plain) ⌝ }
+    requires records { ⌜ count ≤ length (now out) ⌝ }
     ensures { λ _. ⌜ now (out .exit) ≡ written count (now (plain .entry)) (now (out .entry)) ⌝ }
 {
     let mut i = 0;
@@ -73,9 +78,9 @@ pub fn row_records(
     row: u64,
     out: &mut [Run],
 ) -> Answer
-    ensures { λ r. ⌜ record { answer = r; records = now (out .exit) } ≡ recordsCall table number (now (path .entry)) columns rows row (now (out .entry)) ⌝ }
+    ensures { λ r. ⌜ record { answer = r; list = now (out .exit) } ≡ recordsCall table number (now (path .entry)) columns rows row (now (out .entry)) ⌝ }
 {
-    let mut list: [u16; 16384] = [0; 16384];
+    let mut list: [u16; limits::RASTER_MAX] = [0; limits::RASTER_MAX];
     let answer = flat_runs(
         table,
         number,

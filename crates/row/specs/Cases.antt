@@ -16,9 +16,10 @@ use Rattle.plane.specs.Polygon.{chain, edges}
 use Rattle.stroke.specs.Sides.{furthest, sides}
 use Rattle.stroke.specs.Black.{kept}
 use Rattle.stroke.specs.Extent.{narrowed, extent}
-use Rattle.checks.specs.Checks.{inRange, coordinateFrom}
+use Rattle.limits.specs.Sizes.{inRange}
+use Rattle.checks.specs.Checks.{coordinateFrom}
 use Rattle.stroke.specs.Runs.{Run, runsFrom, runsOf}
-use Rattle.checks.specs.Answer.{Result, success}
+use Rattle.checks.specs.Answer.{Result, done}
 use Rattle.stroke.specs.Sweep.{pathPoints}
 use Rattle.row.specs.Answer.{listed, rowResult}
 
@@ -40,7 +41,7 @@ sameNumbers [] (b ∷ l) = false
 sameNumbers (a ∷ k) [] = false
 sameNumbers (a ∷ k) (b ∷ l) = eqb a b && sameNumbers k l
 
-abbrev pub sameResult : Result → Result → Bool
+abbrev pub sameResult : Result ℕ → Result ℕ → Bool
 sameResult r s =
     eqb (r .answer .refusal) (s .answer .refusal) && (eqb (r .answer .place) (s .answer .place) && (eqb (r .answer .count) (s .answer .count) && sameNumbers (r .list) (s .list)))
 
@@ -51,7 +52,7 @@ blank = replicate 6 0
 -- the answers for row j and those above it, in a raster of so many rows, are 0 with exactly these runs
 unfoldable pub rowsFrom : List Pt → List ℤ → ℕ → ℕ → ℕ → List (List Run) → Bool
 rowsFrom cs path columns rows j [] = eqb j rows
-rowsFrom cs path columns rows j (rs ∷ l) = sameResult (rowResult cs path columns rows j blank) (success (length rs) (listed rs blank)) && rowsFrom cs path columns rows (suc j) l
+rowsFrom cs path columns rows j (rs ∷ l) = sameResult (rowResult cs path columns rows j blank) (record { answer = done (length rs); list = listed rs blank }) && rowsFrom cs path columns rows (suc j) l
 
 abbrev pub holds : Case → Bool
 holds (penIs σ l) = taken σ && samePoints (map upward (quarter σ)) l
@@ -98,5 +99,6 @@ table =
     []
 
 pub all-hold : all table ≡ true
-unfolding taken Dx Dy norm lower tried bisect nearRoot amount retained corners quarter upAndBack onceEach pen chain edges furthest sides kept inRange narrowed extent runsFrom runsOf coordinateFrom pathPoints rowResult samePoints sameNumbers rowsFrom all
+unfolding taken Dx Dy norm lower tried bisect nearRoot amount retained corners quarter upAndBack onceEach pen chain edges furthest sides kept inRange narrowed extent
+    runsFrom runsOf coordinateFrom pathPoints rowResult samePoints sameNumbers rowsFrom all
 all-hold = refl

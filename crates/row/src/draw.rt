@@ -6,24 +6,25 @@ use crate::runs::count_runs;
 use crate::runs::write_one;
 use crate::runs::write_runs;
 use checks::Answer;
-use checks::Verdict;
 use cuts::Touch;
+use limits::Verdict;
 ghost use mathlib.Core.Path.{_≡_};
 ghost use mathlib.Core.List.{[], _∷_};
 ghost use Prim.Native.Nat.{_≤_, _<_};
 ghost use lib.ListN.{length};
+ghost use Rattle.limits.specs.Sizes.{rasterMax, Drawable};
+ghost use Rattle.limits.specs.declared.Verdict.the-variants.{Passed};
 ghost use Rattle.plane.specs.Point.{corners};
-ghost use Rattle.stroke.specs.Runs.{runsOf, rowRuns};
-ghost use Rattle.checks.specs.declared.Verdict.the-variants.{Passed};
-ghost use Rattle.checks.specs.Checks.{coordinateVerdict};
-ghost use Rattle.stroke.specs.Sweep.{pathPoints};
-ghost use Rattle.row.specs.Answer.{runsResult};
-ghost use Rattle.cuts.specs.Cuts.{cuts, Bounded, blackFar};
+ghost use Rattle.stroke.specs.Runs.{runsOf};
+ghost use Rattle.cuts.specs.Cuts.{Bounded, blackFar};
+ghost use Rattle.checks.specs.Answer.{given};
+ghost use Rattle.row.specs.Answer.{runsOffer, rowGiven};
 
-// No run needs no room.
+// A row of one run.
 fn write_single(runs: &mut [u16], left: usize, right: usize) -> Answer
-    requires { ⌜ left < 16384 ⌝ ∗ ⌜ right < 16384 ⌝ }
-    ensures { λ r. ⌜ record { answer = r; list = now (runs .exit) } ≡ runsResult (record { left = left; right = right } ∷ []) (now (runs .entry)) ⌝ }
+    requires left_inside { ⌜ left < rasterMax ⌝ }
+    requires right_inside { ⌜ right < rasterMax ⌝ }
+    ensures { λ r. ⌜ record { answer = r; list = now (runs .exit) } ≡ given Passed (runsOffer (record { left = left; right = right } ∷ []) (now (runs .entry))) ⌝ }
 {
     let room = checks::room_check(1, runs.len() / 2);
     let Verdict::Passed = room else {
@@ -35,8 +36,10 @@ fn write_single(runs: &mut [u16], left: usize, right: usize) -> Answer
 
 // The runs are counted before any is written, so that a refusal leaves the list as it was.
 fn write_far(runs: &mut [u16], far: &[u16], first: usize, end: usize) -> Answer
-    requires { ⌜ end ≤ length (now far) ⌝ ∗ ⌜ end ≤ 16384 ⌝ ∗ ⌜ Bounded (now far) first end ⌝ }
-    ensures { λ r. ⌜ record { answer = r; list = now (runs .exit) } ≡ runsResult (runsOf (blackFar (now (far .entry))) end) (now (runs .entry)) ⌝ }
+    requires in_array { ⌜ end ≤ length (now far) ⌝ }
+    requires in_raster { ⌜ end ≤ rasterMax ⌝ }
+    requires bounded { ⌜ Bounded (now far) first end ⌝ }
+    ensures { λ r. ⌜ record { answer = r; list = now (runs .exit) } ≡ given Passed (runsOffer (runsOf (blackFar (now (far .entry))) end) (now (runs .entry))) ⌝ }
 {
     let count = count_runs(far, first, end);
     let room = checks::room_check(count, runs.len() / 2);
@@ -53,33 +56,35 @@ fn several_runs<'a>(
     ys: &'a [i8],
     count: usize,
     path: &[i32],
-    wide: usize,
+    columns: usize,
     row: u64,
 ) -> Answer
-    requires { ⌜ coordinateVerdict (now path) ≡ Passed ⌝ ∗ ⌜ (1 ≤ wide) × (wide ≤ 16384) ⌝ ∗ ⌜ row ≤ 16383 ⌝ }
-    ensures { λ r. ⌜ record { answer = r; list = now (runs .exit) } ≡ runsResult (rowRuns (corners count (now (xs .entry)) (now (ys .entry))) (pathPoints (now (path .entry))) wide row) (now (runs .entry)) ⌝ }
+    requires { ⌜ Drawable (now path) columns row ⌝ }
+    ensures { λ r. ⌜ record { answer = r; list = now (runs .exit) }
+        ≡ rowGiven Passed (corners count (now (xs .entry)) (now (ys .entry))) (now (path .entry)) columns row (now (runs .entry)) ⌝ }
 {
-    let mut far: [u16; 16384] = [0; 16384];
-    let b = cuts::put_together(&mut far, xs, ys, count, path, wide, row);
+    let mut far: [u16; limits::RASTER_MAX] = [0; limits::RASTER_MAX];
+    let b = cuts::put_together(&mut far, xs, ys, count, path, columns, row);
     write_far(runs, &far, b.first, b.end)
 }
 
-// The runs of the row, cut to the raster.
+// The runs of the row, cut to the raster. No run needs no room.
 pub fn draw_runs<'a>(
     runs: &mut [u16],
     xs: &'a [i8],
     ys: &'a [i8],
     count: usize,
     path: &[i32],
-    wide: usize,
+    columns: usize,
     row: u64,
 ) -> Answer
-    requires { ⌜ coordinateVerdict (now path) ≡ Passed ⌝ ∗ ⌜ (1 ≤ wide) × (wide ≤ 16384) ⌝ ∗ ⌜ row ≤ 16383 ⌝ }
-    ensures { λ r. ⌜ record { answer = r; list = now (runs .exit) } ≡ runsResult (rowRuns (corners count (now (xs .entry)) (now (ys .entry))) (pathPoints (now (path .entry))) wide row) (now (runs .entry)) ⌝ }
+    requires { ⌜ Drawable (now path) columns row ⌝ }
+    ensures { λ r. ⌜ record { answer = r; list = now (runs .exit) }
+        ≡ rowGiven Passed (corners count (now (xs .entry)) (now (ys .entry))) (now (path .entry)) columns row (now (runs .entry)) ⌝ }
 {
-    match cuts::touching(xs, ys, count, path, wide, row) {
+    match cuts::touching(xs, ys, count, path, columns, row) {
         Touch::Untouched => checks::done(0),
         Touch::One(left, right) => write_single(runs, left, right),
-        Touch::Several => several_runs(runs, xs, ys, count, path, wide, row),
+        Touch::Several => several_runs(runs, xs, ys, count, path, columns, row),
     }
 }

@@ -5,7 +5,7 @@
 use aperture::Looked;
 use aperture::Table;
 use checks::Answer;
-use checks::Verdict;
+use limits::Verdict;
 use pen::Pen;
 ghost use mathlib.Core.Path.{_≡_};
 ghost use Rattle.pen.specs.Answer.{penCorners};
@@ -29,7 +29,7 @@ pub fn row_runs(
     ensures { λ r. ⌜ record { answer = r; list = now (runs .exit) } ≡ rowCall table number (now (path .entry)) columns rows row (now (runs .entry)) ⌝ }
 {
     let Looked::At(i) = aperture::look_up(table, number) else {
-        return checks::report(Verdict::Refused(6, 0));
+        return checks::report(Verdict::Refused(limits::NO_APERTURE, 0));
     };
     let place = table.places[i];
     runs_for(place.pen, path, columns, rows, row, runs)

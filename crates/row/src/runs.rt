@@ -6,13 +6,14 @@
 // columns passed: a black column starts a new run or moves the right end of the last one. Counting
 // is the same pass without the list, so that a caller knows whether there is room before anything
 // is written.
-use cuts::further;
+use integers::max_u16;
 ghost use mathlib.Core.Path.{_≡_};
 ghost use mathlib.Core.Bool.{true, false, not, cond, _&&_};
 ghost use mathlib.Core.List.{[], _∷_};
 ghost use Prim.Native.Nat.{suc, max, _+_, _-_, _*_, _<_, _≤_};
 ghost use lib.Dec.{ltb};
 ghost use lib.ListN.{length, getD, set};
+ghost use Rattle.limits.specs.Sizes.{rasterMax};
 ghost use Rattle.stroke.specs.Runs.{runsOf};
 ghost use Rattle.row.specs.Answer.{listed};
 ghost use Rattle.cuts.specs.Cuts.{Bounded, blackFar};
@@ -42,7 +43,7 @@ fn reaches(reach: u16, i: usize) -> bool
 }
 
 fn counted(count: usize, before: bool, black: bool) -> usize
-    requires { ⌜ count ≤ 16384 ⌝ }
+    requires { ⌜ count ≤ rasterMax ⌝ }
     ensures { λ r. ⌜ r ≡ cond (black && not before) (suc count) count ⌝ }
 {
     if before {
@@ -56,10 +57,13 @@ fn counted(count: usize, before: bool, black: bool) -> usize
 
 // Column i passed.
 fn next(far: &[u16], i: usize, p: Pass) -> Pass
-    requires { ⌜ i < length (now far) ⌝ ∗ ⌜ p .count ≤ 16384 ⌝ }
-    ensures { λ r. ⌜ r .reach ≡ max (p .reach) (getD (now (far .entry)) i 0) ⌝ ∗ ⌜ r .black ≡ ltb i (r .reach) ⌝ ∗ ⌜ r .count ≡ cond (r .black && not (p .black)) (suc (p .count)) (p .count) ⌝ }
+    requires in_array { ⌜ i < length (now far) ⌝ }
+    requires few { ⌜ p .count ≤ rasterMax ⌝ }
+    ensures reach { λ r. ⌜ r .reach ≡ max (p .reach) (getD (now (far .entry)) i 0) ⌝ }
+    ensures black { λ r. ⌜ r .black ≡ ltb i (r .reach) ⌝ }
+    ensures count { λ r. ⌜ r .count ≡ cond (r .black && not (p .black)) (suc (p .count)) (p .count) ⌝ }
 {
-    let reach = further(p.reach, far[i]);
+    let reach = max_u16(p.reach, far[i]);
     let black = reaches(reach, i);
     let count = counted(p.count, p.black, black);
     Pass {
@@ -70,7 +74,9 @@ fn next(far: &[u16], i: usize, p: Pass) -> Pass
 }
 
 pub fn count_runs(far: &[u16], first: usize, end: usize) -> usize
-    requires { ⌜ end ≤ length (now far) ⌝ ∗ ⌜ end ≤ 16384 ⌝ ∗ ⌜ Bounded (now far) first end ⌝ }
+    requires in_array { ⌜ end ≤ length (now far) ⌝ }
+    requires in_raster { ⌜ end ≤ rasterMax ⌝ }
+    requires bounded { ⌜ Bounded (now far) first end ⌝ }
     ensures { λ r. ⌜ r ≡ length (runsOf (blackFar (now (far .entry))) end) ⌝ }
 {
     let mut p = begin();
@@ -84,7 +90,9 @@ pub fn count_runs(far: &[u16], first: usize, end: usize) -> usize
 
 // The run after the first n.
 fn write_run(runs: &mut [u16], n: usize, left: usize, right: usize)
-    requires { ⌜ 2 * n + 1 < length (now runs) ⌝ ∗ ⌜ left < 16384 ⌝ ∗ ⌜ right < 16384 ⌝ }
+    requires place { ⌜ 2 * n + 1 < length (now runs) ⌝ }
+    requires left_inside { ⌜ left < rasterMax ⌝ }
+    requires right_inside { ⌜ right < rasterMax ⌝ }
     ensures { λ _. ⌜ now (runs .exit) ≡ set (set (now (runs .entry)) (2 * n) left) (2 * n + 1) right ⌝ }
 {
     runs[2 * n] = left as u16;
@@ -94,8 +102,11 @@ fn write_run(runs: &mut [u16], n: usize, left: usize, right: usize)
 // Column i, black or not, after n runs: it lengthens the last run where the column before it is
 // black, and otherwise starts a run.
 fn write_column(runs: &mut [u16], n: usize, i: usize, before: bool, black: bool)
-    requires { ⌜ i < 16384 ⌝ ∗ ⌜ (before ≡ true → 1 ≤ n) ⌝ ∗ ⌜ 2 * cond (black && not before) (suc n) n ≤ length (now runs) ⌝ }
-    ensures { λ _. ⌜ now (runs .exit) ≡ cond black (cond before (set (now (runs .entry)) (2 * n - 1) i) (set (set (now (runs .entry)) (2 * n) i) (2 * n + 1) i)) (now (runs .entry)) ⌝ }
+    requires inside { ⌜ i < rasterMax ⌝ }
+    requires some { ⌜ (before ≡ true → 1 ≤ n) ⌝ }
+    requires room { ⌜ 2 * cond (black && not before) (suc n) n ≤ length (now runs) ⌝ }
+    ensures { λ _. ⌜ now (runs .exit)
+        ≡ cond black (cond before (set (now (runs .entry)) (2 * n - 1) i) (set (set (now (runs .entry)) (2 * n) i) (2 * n + 1) i)) (now (runs .entry)) ⌝ }
 {
     if black {
         if before {
@@ -107,7 +118,10 @@ fn write_column(runs: &mut [u16], n: usize, i: usize, before: bool, black: bool)
 }
 
 pub fn write_runs(far: &[u16], first: usize, end: usize, runs: &mut [u16])
-    requires { ⌜ end ≤ length (now far) ⌝ ∗ ⌜ end ≤ 16384 ⌝ ∗ ⌜ 2 * length (runsOf (blackFar (now far)) end) ≤ length (now runs) ⌝ ∗ ⌜ Bounded (now far) first end ⌝ }
+    requires in_array { ⌜ end ≤ length (now far) ⌝ }
+    requires in_raster { ⌜ end ≤ rasterMax ⌝ }
+    requires room { ⌜ 2 * length (runsOf (blackFar (now far)) end) ≤ length (now runs) ⌝ }
+    requires bounded { ⌜ Bounded (now far) first end ⌝ }
     ensures { λ _. ⌜ now (runs .exit) ≡ listed (runsOf (blackFar (now (far .entry))) end) (now (runs .entry)) ⌝ }
 {
     let mut p = begin();
@@ -121,7 +135,9 @@ pub fn write_runs(far: &[u16], first: usize, end: usize, runs: &mut [u16])
 }
 
 pub fn write_one(runs: &mut [u16], left: usize, right: usize)
-    requires { ⌜ 2 ≤ length (now runs) ⌝ ∗ ⌜ left < 16384 ⌝ ∗ ⌜ right < 16384 ⌝ }
+    requires room { ⌜ 2 ≤ length (now runs) ⌝ }
+    requires left_inside { ⌜ left < rasterMax ⌝ }
+    requires right_inside { ⌜ right < rasterMax ⌝ }
     ensures { λ _. ⌜ now (runs .exit) ≡ listed (record { left = left; right = right } ∷ []) (now (runs .entry)) ⌝ }
 {
     write_run(runs, 0, left, right);

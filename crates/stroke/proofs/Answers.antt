@@ -15,13 +15,13 @@ use Rattle.stroke.proofs.WeightTheorems.{rows-hold, column-holds}
 
 -- the runs of v neighbouring middle rows hold c pixels together
 pub rows-total : (cs : List Pt) (Dx Dy : ℤ) → PenLaws cs Dx Dy → (g : Seg) (u : ℤ) (v : ℕ) (t : ℤ) → Direction g u v t → (c : ℕ) → offset cs u v ≡ pos c →
-    (j : ℤ) → ((i : ℤ) → InRows j v i → InsideRow g Dy i) → (wide : ℕ) (rs : ℕ → List Run) →
-    ((k : ℕ) → k < v → Uncut wide (BlackPixel cs g) (j +ℤ pos k)) → ((k : ℕ) → k < v → RowOf wide (BlackPixel cs g) (j +ℤ pos k) (rs k)) → total rs v ≡ c
-rows-total cs Dx Dy pen g u v t dir c e j inside wide rs uncut ans = total-is wide (BlackPixel cs g) j rs v c uncut ans (rows-hold cs Dx Dy pen g u v t dir c e j inside)
+    (j : ℤ) → ((i : ℤ) → InRows j v i → InsideRow g Dy i) → (columns : ℕ) (rs : ℕ → List Run) →
+    ((k : ℕ) → k < v → Uncut columns (BlackPixel cs g) (j +ℤ pos k)) → ((k : ℕ) → k < v → RowOf columns (BlackPixel cs g) (j +ℤ pos k) (rs k)) → total rs v ≡ c
+rows-total cs Dx Dy pen g u v t dir c e j inside columns rs uncut ans = total-is columns (BlackPixel cs g) j rs v c uncut ans (rows-hold cs Dx Dy pen g u v t dir c e j inside)
 
 -- a middle column of a level stroke is covered in as many rows as the pen is high
 pub column-covered : (cs : List Pt) (Dx : ℤ) (Dy : ℕ) → PenLaws cs Dx (pos Dy) → (g : Seg) → g .from .y ≡ g .to .y → ¬ (g .from .x ≡ g .to .x) →
-    (i : ℤ) → InsideColumn g Dx i → (wide rows : ℕ) (rs : ℕ → List Run) →
-    ((j : ℤ) → BlackPixel cs g (pixel i j) → (pos 0 ≼ i) × (i ≺ pos wide) × (pos 0 ≼ j) × (j ≺ pos rows)) →
-    ((j : ℕ) → j < rows → RowOf wide (BlackPixel cs g) (pos j) (rs j)) → Number (λ j. (j < rows) × CoversZ (rs j) i) Dy
-column-covered cs Dx Dy pen g flat differs i inside wide rows rs uncut ans = covered-rows wide rows (BlackPixel cs g) i rs Dy uncut ans (column-holds cs Dx Dy pen g flat differs i inside)
+    (i : ℤ) → InsideColumn g Dx i → (columns rows : ℕ) (rs : ℕ → List Run) →
+    ((j : ℤ) → BlackPixel cs g (pixel i j) → (pos 0 ≼ i) × (i ≺ pos columns) × (pos 0 ≼ j) × (j ≺ pos rows)) →
+    ((j : ℕ) → j < rows → RowOf columns (BlackPixel cs g) (pos j) (rs j)) → Number (λ j. (j < rows) × CoversZ (rs j) i) Dy
+column-covered cs Dx Dy pen g flat differs i inside columns rows rs uncut ans = covered-rows columns rows (BlackPixel cs g) i rs Dy uncut ans (column-holds cs Dx Dy pen g flat differs i inside)

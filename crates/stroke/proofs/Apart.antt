@@ -12,33 +12,33 @@ use Rattle.stroke.specs.Runs.{Run, Apart, Covers, Longest}
 
 -- ---- columns and runs
 -- no column left of the first one allowed is covered
-pub from : (lo : ℕ) (rs : List Run) (x : ℕ) → Apart lo rs → Covers rs x → lo ≤ x
-from lo [] x a c = absurd c
-from lo (r ∷ rs) x a (inl c) = omega arith
-from lo (r ∷ rs) x a (inr c) = omega (arith, from (r .right + 2) rs x (a .2) c)
+pub apart-from : (lo : ℕ) (rs : List Run) (x : ℕ) → Apart lo rs → Covers rs x → lo ≤ x
+apart-from lo [] x a c = absurd c
+apart-from lo (r ∷ rs) x a (inl c) = omega arith
+apart-from lo (r ∷ rs) x a (inr c) = omega (arith, apart-from (r .right + 2) rs x (a .2) c)
 
 -- a column of a run is covered
-pub covered : (rs : List Run) (r : Run) (x : ℕ) → r ∈ rs → r .left ≤ x → x ≤ r .right → Covers rs x
-covered [] r x m h k = absurd (not-nil m)
-covered (s ∷ rs) r x m h k = elim (cases m) [ inl e ↦ inl (rw e at h, rw e at k) | inr i ↦ inr (covered rs r x i h k) ]
+pub covers-run : (rs : List Run) (r : Run) (x : ℕ) → r ∈ rs → r .left ≤ x → x ≤ r .right → Covers rs x
+covers-run [] r x m h k = absurd (not-nil m)
+covers-run (s ∷ rs) r x m h k = elim (cases m) [ inl e ↦ inl (rw e at h, rw e at k) | inr i ↦ inr (covers-run rs r x i h k) ]
 
 -- each run covers its own left column
-pub forward : (lo : ℕ) (rs : List Run) (r : Run) → Apart lo rs → r ∈ rs → r .left ≤ r .right
-forward lo [] r a m = absurd (not-nil m)
-forward lo (s ∷ rs) r a m = elim (cases m) [ inl e ↦ rw e (a .1) | inr i ↦ forward (s .right + 2) rs r (a .2) i ]
+pub run-forward : (lo : ℕ) (rs : List Run) (r : Run) → Apart lo rs → r ∈ rs → r .left ≤ r .right
+run-forward lo [] r a m = absurd (not-nil m)
+run-forward lo (s ∷ rs) r a m = elim (cases m) [ inl e ↦ rw e (a .1) | inr i ↦ run-forward (s .right + 2) rs r (a .2) i ]
 
 -- a run and the clear column after it take at least two columns
-pub few : (lo n : ℕ) (rs : List Run) → Apart lo rs → ((r : Run) → r ∈ rs → r .right < n) → lo ≤ n + 1 → lo + 2 * length rs ≤ n + 1
-few lo n [] a h k = omega arith
-few lo n (r ∷ rs) a h k =
+pub apart-few : (lo n : ℕ) (rs : List Run) → Apart lo rs → ((r : Run) → r ∈ rs → r .right < n) → lo ≤ n + 1 → lo + 2 * length rs ≤ n + 1
+apart-few lo n [] a h k = omega arith
+apart-few lo n (r ∷ rs) a h k =
     let e : r .right < n = h r (head refl) in
-    omega (arith, few (r .right + 2) n rs (a .2) (λ s m. h s (tail m)) (omega arith))
+    omega (arith, apart-few (r .right + 2) n rs (a .2) (λ s m. h s (tail m)) (omega arith))
 
 -- ---- what covers no more than another list
 module _ (r s : Run) (rs ss : List Run) (h : (x : ℕ) → Covers (r ∷ rs) x → Covers (s ∷ ss) x) where
   -- the first column of r is covered by the others, and these start with s
   left-le : {lo mo : ℕ} → Apart lo (r ∷ rs) → Apart mo (s ∷ ss) → s .left ≤ r .left
-  left-le a b = from (s .left) (s ∷ ss) (r .left) (omega arith, b .1, b .2) (h (r .left) (inl (omega arith, a .1)))
+  left-le a b = apart-from (s .left) (s ∷ ss) (r .left) (omega arith, b .1, b .2) (h (r .left) (inl (omega arith, a .1)))
 
   -- the column after s is clear, so r ends no later
   right-le : {mo : ℕ} → r .left ≤ s .left → Apart mo (s ∷ ss) → r .right ≤ s .right
@@ -46,14 +46,14 @@ module _ (r s : Run) (rs ss : List Run) (h : (x : ℕ) → Covers (r ∷ rs) x �
     where
       out : Covers (s ∷ ss) (s .right + 1) → ⊥
       out (inl c) = omega arith
-      out (inr c) = omega (arith, from (s .right + 2) ss (s .right + 1) (b .2) c)
+      out (inr c) = omega (arith, apart-from (s .right + 2) ss (s .right + 1) (b .2) c)
 
   -- where r and s end together, what the runs after r cover lies beyond s
   tail-covers : r .right ≡ s .right → Apart (r .right + 2) rs → (x : ℕ) → Covers rs x → Covers ss x
   tail-covers e a x c = go (h x (inr c))
     where
       go : Covers (s ∷ ss) x → Covers ss x
-      go (inl d) = absurd (omega (arith, from (r .right + 2) rs x a c))
+      go (inl d) = absurd (omega (arith, apart-from (r .right + 2) rs x a c))
       go (inr d) = d
 
 -- ---- the same columns, the same runs
@@ -76,10 +76,10 @@ runs-unique lo mo (r ∷ rs) (s ∷ ss) a b h =
 -- ---- the longest runs
 module _ {P : ℕ → Type 0} {n : ℕ} {rs : List Run} (l : Longest P n rs) where
   pub longest-in : (r : Run) → r ∈ rs → (r .left ≤ r .right) × (r .right < n)
-  longest-in r m = let k = forward 0 rs r (l .apart) m in (k, l .cover (r .right) .0 (covered rs r (r .right) m k (omega arith)) .0)
+  longest-in r m = let k = run-forward 0 rs r (l .apart) m in (k, l .cover (r .right) .0 (covers-run rs r (r .right) m k (omega arith)) .0)
 
   pub longest-few : 2 * length rs ≤ n + 1
-  longest-few = omega (arith, few 0 n rs (l .apart) (λ r m. longest-in r m .1) (omega arith))
+  longest-few = omega (arith, apart-few 0 n rs (l .apart) (λ r m. longest-in r m .1) (omega arith))
 
   -- of another property that agrees with it below n
   pub longest-iff : (Q : ℕ → Type 0) → ((x : ℕ) → x < n → P x ↔ Q x) → Longest Q n rs

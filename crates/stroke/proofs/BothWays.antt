@@ -11,7 +11,7 @@ use Rattle.integers.proofs.Ring.{ring, reify, _⊢_}
 use Rattle.integers.proofs.Order.{mul-nn, sub-nn, sub-pos, le-or-lt}
 use Rattle.plane.specs.Point.{Pt, pt}
 use Rattle.plane.specs.Polygon.{Side, edge, edges, PenLaws}
-use Rattle.stroke.proofs.Corners.{after, before, ends-level}
+use Rattle.stroke.proofs.Corners.{edge-after, edge-before, ends-level}
 
 -- at a corner with x >= 1, where the edge that ends there came from the left and the one that starts there goes left, one of the two rises: else the middle, which lies
 -- above or below, would be outside the one or the other
@@ -62,12 +62,12 @@ twice : (z D : ℤ) → pos 1 ≼ D → z ≡ D → pos 1 ≼ negℤ (negℤ z)
 twice = ring 2 _ (λ ρ. simp (reify, ρ) (omega arith))
 
 module _ (cs : List Pt) (Dx Dy : ℤ) (pen : PenLaws cs Dx Dy) where
-  pub rising : (e : Side) × (e ∈ edges cs) × (pos 0 ≺ e .a)
-  rising =
+  pub rising-edge : (e : Side) × (e ∈ edges cs) × (pos 0 ≺ e .a)
+  rising-edge =
       let z = pen .rightmost .0 in
       let m = pen .rightmost .1 in
-      let p = before cs m in
-      let q = after cs m in
+      let p = edge-before cs m in
+      let q = edge-after cs m in
       let e = edge (p .0) z in
       let f = edge z (q .0) in
       elim (le-or-lt (e .a) (pos 0)) [
@@ -80,13 +80,13 @@ module _ (cs : List Pt) (Dx Dy : ℤ) (pen : PenLaws cs Dx Dy) where
         )
       ]
 
-  pub falling : (e : Side) × (e ∈ edges cs) × (e .a ≺ pos 0)
-  falling =
+  pub falling-edge : (e : Side) × (e ∈ edges cs) × (e .a ≺ pos 0)
+  falling-edge =
       let r = pen .rightmost .0 in
       let z = pt (negℤ (r .x)) (r .y) in
       let m = pen .mirrorX r (pen .rightmost .1) in
-      let p = before cs m in
-      let q = after cs m in
+      let p = edge-before cs m in
+      let q = edge-after cs m in
       let e = edge (p .0) z in
       let f = edge z (q .0) in
       elim (le-or-lt (pos 0) (e .a)) [
@@ -94,7 +94,9 @@ module _ (cs : List Pt) (Dx Dy : ℤ) (pen : PenLaws cs Dx Dy) where
         | inl h ↦ (
           f,
           q .2,
-          one-falls (z .x) (z .y) (e .a) (e .b) (f .a) (f .b) (twice (r .x) Dx (pen .somewide) (pen .rightmost .2)) (not-left (p .0 .x) Dx (r .x) (pen .wide _ (pen .mirrorX (p .0) (p .1))) (pen .rightmost .2))
-              (from-left (q .0 .x) Dx (r .x) (pen .wide _ (pen .mirrorX (q .0) (q .1))) (pen .rightmost .2)) (rw (ends-level (p .0 .x) (p .0 .y) (z .x) (z .y)) (pen .thick e (p .2))) (pen .thick f (q .2)) h,
+          one-falls (z .x) (z .y) (e .a) (e .b) (f .a) (f .b) (twice (r .x) Dx (pen .somewide) (pen .rightmost .2))
+              (not-left (p .0 .x) Dx (r .x) (pen .wide _ (pen .mirrorX (p .0) (p .1))) (pen .rightmost .2))
+              (from-left (q .0 .x) Dx (r .x) (pen .wide _ (pen .mirrorX (q .0) (q .1))) (pen .rightmost .2))
+              (rw (ends-level (p .0 .x) (p .0 .y) (z .x) (z .y)) (pen .thick e (p .2))) (pen .thick f (q .2)) h,
         )
       ]

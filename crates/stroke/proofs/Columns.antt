@@ -15,10 +15,10 @@ use Rattle.stroke.specs.Sweep.{Seg, centre}
 use Rattle.stroke.specs.Sides.{moved, sides}
 use Rattle.stroke.specs.Black.{Black}
 use Rattle.stroke.specs.Extent.{Span, none, In, Limit, free, at, Left, upper, lower, narrow, narrowed, spanBetween, spanOf, reached, extent}
-use Rattle.stroke.proofs.Sides.{each→}
+use Rattle.stroke.proofs.Sides.{sides-each}
 use Rattle.stroke.proofs.Black.{black-iff}
 use Rattle.stroke.proofs.Reach.{is-reached}
-use Rattle.stroke.proofs.BothWays.{rising, falling}
+use Rattle.stroke.proofs.BothWays.{rising-edge, falling-edge}
 use Rattle.stroke.proofs.Limits.{Below, Above, Leaves, narrowed-iff}
 
 -- ---- both limits are given
@@ -99,14 +99,16 @@ start = record { some = true; least = free; most = free }
 module _ (cs : List Pt) (Dx Dy : ℤ) (pen : PenLaws cs Dx Dy) (g : Seg) (i j : ℤ) where
   -- each edge of the pen, moved, is a side with the same normal
   on-side : (e : Side) → e ∈ edges cs → moved g e ∈ sides cs g
-  on-side = each→ (λ e. e ∈ sides cs g) cs g (λ e m. m) .edgewise
+  on-side = sides-each (λ e. e ∈ sides cs g) cs g (λ e m. m) .edgewise
 
   -- with a rising and a falling edge both limits are given, so the columns of the span are those that all sides allow
   left-black : In (spanOf (narrowed j (sides cs g) start)) i ↔ Black cs g (centre i j)
   left-black =
-      let r = rising cs Dx Dy pen in
-      let f = falling cs Dx Dy pen in
-      let s = span-iff i (narrowed j (sides cs g) start) (least-given j (sides cs g) start (inr (moved g (f .0), on-side (f .0) (f .1), f .2))) (most-given j (sides cs g) start (inr (moved g (r .0), on-side (r .0) (r .1), r .2))) in
+      let r = rising-edge cs Dx Dy pen in
+      let f = falling-edge cs Dx Dy pen in
+      let l = least-given j (sides cs g) start (inr (moved g (f .0), on-side (f .0) (f .1), f .2)) in
+      let m = most-given j (sides cs g) start (inr (moved g (r .0), on-side (r .0) (r .1), r .2)) in
+      let s = span-iff i (narrowed j (sides cs g) start) l m in
       let n = narrowed-iff i j (sides cs g) start in
       let b = black-iff cs Dx Dy pen g (centre i j) in
       ((λ m. b .1 (n .0 (s .0 m) .1)), λ h. s .1 (n .1 (record { any = refl; lo = tt; hi = tt }, b .0 h)))

@@ -47,20 +47,20 @@ joined F P [] (List·Memᴰ·tail m) = absurd (List·Memᴰ·not-nil m)
 joined F P (R ∷ l) (List·Memᴰ·head h) = (P, R, List·Memᴰ·head refl, List·Memᴰ·tail (List·Memᴰ·tail (List·Memᴰ·head refl)), h)
 joined F P (R ∷ l) (List·Memᴰ·tail m) = let r = joined F R l m in (r .0, r .1, List·Memᴰ·tail (r .2), skip (r .3), r .4)
 
-pub after : (cs : List Pt) {z : Pt} → z ∈ cs → (q : Pt) × (q ∈ cs) × (edge z q ∈ edges cs)
+pub edge-after : (cs : List Pt) {z : Pt} → z ∈ cs → (q : Pt) × (q ∈ cs) × (edge z q ∈ edges cs)
 unfolding edges
-after [] m = absurd (List·Memᴰ·not-nil m)
-after (P ∷ l) m = let r = on P P l m in (r .0, once (r .1), r .2)
+edge-after [] m = absurd (List·Memᴰ·not-nil m)
+edge-after (P ∷ l) m = let r = on P P l m in (r .0, once (r .1), r .2)
 
-pub before : (cs : List Pt) {z : Pt} → z ∈ cs → (q : Pt) × (q ∈ cs) × (edge q z ∈ edges cs)
+pub edge-before : (cs : List Pt) {z : Pt} → z ∈ cs → (q : Pt) × (q ∈ cs) × (edge q z ∈ edges cs)
 unfolding edges
-before [] m = absurd (List·Memᴰ·not-nil m)
-before (P ∷ l) m = back P P l m
+edge-before [] m = absurd (List·Memᴰ·not-nil m)
+edge-before (P ∷ l) m = back P P l m
 
-pub ends : (cs : List Pt) {e : Side} → e ∈ edges cs → (p : Pt) × (q : Pt) × (p ∈ cs) × (q ∈ cs) × (e ≡ edge p q)
+pub edge-ends : (cs : List Pt) {e : Side} → e ∈ edges cs → (p : Pt) × (q : Pt) × (p ∈ cs) × (q ∈ cs) × (e ≡ edge p q)
 unfolding edges
-ends [] m = absurd (List·Memᴰ·not-nil m)
-ends (P ∷ l) m = let r = joined P P l m in (r .0, r .1, r .2, once (r .3), r .4)
+edge-ends [] m = absurd (List·Memᴰ·not-nil m)
+edge-ends (P ∷ l) m = let r = joined P P l m in (r .0, r .1, r .2, once (r .3), r .4)
 
 -- both ends of an edge lie on its line
 pub ends-level : (px py zx zy : ℤ) → (zy -ℤ py) *ℤ zx +ℤ (px -ℤ zx) *ℤ zy ≡ (zy -ℤ py) *ℤ px +ℤ (px -ℤ zx) *ℤ py
@@ -94,15 +94,15 @@ neither = ring 2 _ (λ ρ. simp (reify, ρ) (omega arith))
 
 module _ (cs : List Pt) (Dx Dy : ℤ) (pen : PenLaws cs Dx Dy) where
   -- the opposite corner
-  pub turn : {z : Pt} → z ∈ cs → pt (negℤ (z .x)) (negℤ (z .y)) ∈ cs
-  turn {z} m = pen .mirrorY _ (pen .mirrorX z m)
+  pub corner-opposite : {z : Pt} → z ∈ cs → pt (negℤ (z .x)) (negℤ (z .y)) ∈ cs
+  corner-opposite {z} m = pen .mirrorY _ (pen .mirrorX z m)
 
   -- the furthest value is met at a corner: also where it is 0, since then every corner and its opposite lie at 0
-  pub top : (a b : ℤ) → (z : Pt) × (z ∈ cs) × (dot a b z ≡ furthest a b cs)
-  top a b = elim (attained a b cs) [
+  pub furthest-corner : (a b : ℤ) → (z : Pt) × (z ∈ cs) × (dot a b z ≡ furthest a b cs)
+  furthest-corner a b = elim (attained a b cs) [
     | inl r ↦ r
     | inr e ↦
         let z = pen .rightmost .0 in
         let m = pen .rightmost .1 in
-        (z, m, neither (dot a b z) (furthest a b cs) (furthest-bound a b cs m) (rw (turned a b (z .x) (z .y)) at (furthest-bound a b cs (turn m))) e)
+        (z, m, neither (dot a b z) (furthest a b cs) (furthest-bound a b cs m) (rw (turned a b (z .x) (z .y)) at (furthest-bound a b cs (corner-opposite m))) e)
   ]

@@ -12,7 +12,7 @@ use Rattle.plane.specs.Point.{Pt}
 use Rattle.plane.specs.Polygon.{dot, PenLaws}
 use Rattle.stroke.specs.Sides.{furthest}
 use Rattle.stroke.proofs.Signs.{neg-neg, neg-below}
-use Rattle.stroke.proofs.Corners.{furthest-bound, turn, top}
+use Rattle.stroke.proofs.Corners.{furthest-bound, corner-opposite, furthest-corner}
 
 -- a corner's value in t times a direction, and in the opposite one
 scaled : (t a b a′ b′ x y : ℤ) → a′ ≡ t *ℤ a → b′ ≡ t *ℤ b → a′ *ℤ x +ℤ b′ *ℤ y ≡ t *ℤ (a *ℤ x +ℤ b *ℤ y)
@@ -42,15 +42,15 @@ module _ (cs : List Pt) (Dx Dy : ℤ) (pen : PenLaws cs Dx Dy) where
   -- each of the two is met at a corner, and there the other is no less
   pub furthest-times : (t a b a′ b′ : ℤ) → pos 0 ≼ t → a′ ≡ t *ℤ a → b′ ≡ t *ℤ b → furthest a′ b′ cs ≡ t *ℤ furthest a b cs
   furthest-times t a b a′ b′ ht e f =
-      let z = top cs Dx Dy pen a′ b′ in
-      let w = top cs Dx Dy pen a b in
+      let z = furthest-corner cs Dx Dy pen a′ b′ in
+      let w = furthest-corner cs Dx Dy pen a b in
       le-antisymm (furthest a′ b′ cs) (t *ℤ furthest a b cs)
       (rw (← z .2, scaled t a b a′ b′ (z .0 .x) (z .0 .y) e f) (mul-mono t (dot a b (z .0)) (furthest a b cs) ht (furthest-bound a b cs (z .1))))
       (rw (← w .2, ← scaled t a b a′ b′ (w .0 .x) (w .0 .y) e f) (furthest-bound a′ b′ cs (w .1)))
 
   -- a corner in the opposite direction is the opposite corner in this one
   turn-le : (a b a′ b′ : ℤ) → a′ ≡ negℤ a → b′ ≡ negℤ b → furthest a′ b′ cs ≼ furthest a b cs
-  turn-le a b a′ b′ e f = let z = top cs Dx Dy pen a′ b′ in rw (← z .2, turned a b a′ b′ (z .0 .x) (z .0 .y) e f) (furthest-bound a b cs (turn cs Dx Dy pen (z .1)))
+  turn-le a b a′ b′ e f = let z = furthest-corner cs Dx Dy pen a′ b′ in rw (← z .2, turned a b a′ b′ (z .0 .x) (z .0 .y) e f) (furthest-bound a b cs (corner-opposite cs Dx Dy pen (z .1)))
 
   pub furthest-turn : (a b a′ b′ : ℤ) → a′ ≡ negℤ a → b′ ≡ negℤ b → furthest a′ b′ cs ≡ furthest a b cs
   furthest-turn a b a′ b′ e f = le-antisymm (furthest a′ b′ cs) (furthest a b cs) (turn-le a b a′ b′ e f) (turn-le a′ b′ a b (swap a a′ e) (swap b b′ f))
@@ -58,7 +58,7 @@ module _ (cs : List Pt) (Dx Dy : ℤ) (pen : PenLaws cs Dx Dy) where
   -- straight down it is met at the lowest corner
   pub furthest-down : (b : ℤ) → b ≺ pos 0 → furthest (pos 0) b cs ≡ negℤ b *ℤ Dy
   furthest-down b h =
-      let z = top cs Dx Dy pen (pos 0) b in
+      let z = furthest-corner cs Dx Dy pen (pos 0) b in
       let l = pen .lowest in
       le-antisymm (furthest (pos 0) b cs) (negℤ b *ℤ Dy)
       (rw (← z .2) (low-max b Dy (z .0 .x) (z .0 .y) h (above-lowest (z .1))))

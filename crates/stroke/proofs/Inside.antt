@@ -14,8 +14,8 @@ use Rattle.plane.specs.Point.{Pt}
 use Rattle.plane.specs.Polygon.{Side, dot, edges, PenLaws}
 use Rattle.stroke.specs.Sweep.{Seg, Sweep}
 use Rattle.stroke.specs.Sides.{moved, furthest, touching, sides}
-use Rattle.stroke.proofs.Sides.{Meets, →each}
-use Rattle.stroke.proofs.Support.{one-lt, support}
+use Rattle.stroke.proofs.Sides.{Meets, each-side}
+use Rattle.stroke.proofs.Support.{one-lt, pen-support}
 
 -- M is at least what either end gives, so it is at least what the place s / k of the way gives
 edge-side : (a b c x y ax ay bx by k s M : ℤ) → pos 0 ≼ s → s ≼ k → a *ℤ ax +ℤ b *ℤ ay ≼ M → a *ℤ bx +ℤ b *ℤ by ≼ M →
@@ -42,7 +42,7 @@ module _ (cs : List Pt) (Dx Dy : ℤ) (pen : PenLaws cs Dx Dy) (g : Seg) (X : Pt
       let B = g .to in
       let c = furthest a b cs in
       mul-cancel (w .k) (dot a b X) (pos 8 *ℤ c +ℤ M) (one-lt (w .k) (w .k-some))
-      (edge-side a b c (X .x) (X .y) (A .x) (A .y) (B .x) (B .y) (w .k) (w .s) M (w .s-low) (w .s-high) hA hB (support cs Dx Dy pen a b (w .k) _ (w .in-pen)))
+      (edge-side a b c (X .x) (X .y) (A .x) (A .y) (B .x) (B .y) (w .k) (w .s) M (w .s-low) (w .s-high) hA hB (pen-support cs Dx Dy pen a b (w .k) _ (w .in-pen)))
 
   edgewise : Sweep cs g X → (e : Side) → e ∈ edges cs → Meets X (moved g e)
   edgewise w e m =
@@ -59,4 +59,4 @@ module _ (cs : List Pt) (Dx Dy : ℤ) (pen : PenLaws cs Dx Dy) (g : Seg) (X : Pt
   sweep→sides w =
       let u = g .to .x -ℤ g .from .x in
       let v = g .to .y -ℤ g .from .y in
-      →each (Meets X) cs g (record { edgewise = edgewise w; path = λ d. (along w v (negℤ u) (level₁ u v), along w (negℤ v) u (level₂ u v)) })
+      each-side (Meets X) cs g (record { edgewise = edgewise w; path = λ d. (along w v (negℤ u) (level₁ u v), along w (negℤ v) u (level₂ u v)) })

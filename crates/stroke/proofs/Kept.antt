@@ -22,21 +22,21 @@ one (pos zero) (negsuc n) h = rw (leb·suc-zero (suc n))
 one (pos (suc m)) b h = rw (leb·suc-suc 0 m, leb·zero m)
 one (negsuc m) b h = rw (leb·suc-suc 0 m, leb·zero m)
 
-pub rightward : (a b : ℤ) → pos 0 ≺ a → kept a b ≡ true
+pub kept-rightward : (a b : ℤ) → pos 0 ≺ a → kept a b ≡ true
 unfolding kept
-rightward a b h = rw (lt-iff (pos 0) a .1 h)
+kept-rightward a b h = rw (lt-iff (pos 0) a .1 h)
 
-pub down : (b : ℤ) → b ≺ pos 0 → kept (pos 0) b ≡ true
+pub kept-down : (b : ℤ) → b ≺ pos 0 → kept (pos 0) b ≡ true
 unfolding kept
-down b h = lt-iff b (pos 0) .1 h
+kept-down b h = lt-iff b (pos 0) .1 h
 
 -- of a flat side the part upwards decides
-pub flat : (b : ℤ) → kept (pos 0) b ≡ ltZ b (pos 0)
+pub kept-flat : (b : ℤ) → kept (pos 0) b ≡ ltZ b (pos 0)
 unfolding kept
-flat b = refl
+kept-flat b = refl
 
-pub has : KeptLaws
-has = record { one = one; rightward = rightward; down = down }
+pub kept-laws : KeptLaws
+kept-laws = record { one = one; rightward = kept-rightward; down = kept-down }
 
 -- ---- from the laws
 pub neg-pos : (a : ℤ) → a ≺ pos 0 → pos 0 ≺ negℤ a
@@ -56,8 +56,8 @@ dropped : (t : Bool) → not t ≡ true → t ≡ false
 dropped true e = sym e
 dropped false e = refl
 
-pub leftward : (a b : ℤ) → a ≺ pos 0 → kept a b ≡ false
-leftward a b h = dropped (kept a b) (sym (has .one a b (λ z. not-zero a h (z .0))) ∙ has .rightward (negℤ a) (negℤ b) (neg-pos a h))
+pub dropped-leftward : (a b : ℤ) → a ≺ pos 0 → kept a b ≡ false
+dropped-leftward a b h = dropped (kept a b) (sym (kept-laws .one a b (λ z. not-zero a h (z .0))) ∙ kept-laws .rightward (negℤ a) (negℤ b) (neg-pos a h))
 
-pub up : (b : ℤ) → pos 0 ≺ b → kept (pos 0) b ≡ false
-up b h = dropped (kept (pos 0) b) (sym (has .one (pos 0) b (λ z. not-zero′ b h (z .1))) ∙ has .down (negℤ b) (neg-neg b h))
+pub dropped-up : (b : ℤ) → pos 0 ≺ b → kept (pos 0) b ≡ false
+dropped-up b h = dropped (kept (pos 0) b) (sym (kept-laws .one (pos 0) b (λ z. not-zero′ b h (z .1))) ∙ kept-laws .down (negℤ b) (neg-neg b h))

@@ -20,9 +20,9 @@ use Rattle.stroke.specs.Sweep.{Seg}
 use Rattle.stroke.specs.Sides.{moved, furthest, touching}
 use Rattle.stroke.specs.Black.{kept, Black}
 use Rattle.stroke.proofs.Signs.{neg-below, neg-above, times-le, times-lt}
-use Rattle.stroke.proofs.Kept.{down, up}
-use Rattle.stroke.proofs.Corners.{turn}
-use Rattle.stroke.proofs.Sides.{each→, →each, differ}
+use Rattle.stroke.proofs.Kept.{kept-down, dropped-up}
+use Rattle.stroke.proofs.Corners.{corner-opposite}
+use Rattle.stroke.proofs.Sides.{sides-each, each-side, same-or-differ}
 use Rattle.stroke.proofs.Black.{Allows, allows-kept, allows-dropped, black-iff}
 use Rattle.stroke.proofs.Furthest.{furthest-down, furthest-up}
 use Rattle.stroke.proofs.Window.{Band}
@@ -38,12 +38,12 @@ module _ (cs : List Pt) (Dx Dy : ℤ) (pen : PenLaws cs Dx Dy) (A X : Pt) where
   -- the one whose normal points down is kept, the one whose normal points up is not
   low-iff : (b : ℤ) → b ≺ pos 0 → Allows X (touching cs A (pos 0) b) ↔ (negℤ (pos 8 *ℤ Dy) ≼ X .y -ℤ A .y)
   low-iff b h =
-      Iff·trans (allows-kept (down b h))
+      Iff·trans (allows-kept (kept-down b h))
       (Iff·trans (low-side b (furthest (pos 0) b cs) Dy (X .x) (X .y) (A .x) (A .y) (furthest-down cs Dx Dy pen b h)) (times-le (negℤ b) (negℤ (pos 8 *ℤ Dy)) (X .y -ℤ A .y) (neg-above b h)))
 
   high-iff : (b : ℤ) → pos 0 ≺ b → Allows X (touching cs A (pos 0) b) ↔ (X .y -ℤ A .y ≺ pos 8 *ℤ Dy)
   high-iff b h =
-      Iff·trans (allows-dropped (up b h))
+      Iff·trans (allows-dropped (dropped-up b h))
       (Iff·trans (high-side b (furthest (pos 0) b cs) Dy (X .x) (X .y) (A .x) (A .y) (furthest-up cs Dx Dy pen b h)) (times-lt b (X .y -ℤ A .y) (pos 8 *ℤ Dy) h))
 
 -- ---- an edge of normal (a, b) and offset ce: it is no nearer than b times the pen's height
@@ -117,7 +117,7 @@ module _ (cs : List Pt) (Dx Dy : ℤ) (pen : PenLaws cs Dx Dy) (g : Seg) (X : Pt
   ]
 
   apart : same (g .from) (g .to) ≡ false
-  apart = elim (differ (g .from) (g .to)) [ inl e ↦ absurd (differs (e .0)) | inr e ↦ e ]
+  apart = elim (same-or-differ (g .from) (g .to)) [ inl e ↦ absurd (differs (e .0)) | inr e ↦ e ]
 
   -- the sides along the path, with the rise r and the way across
   abbrev Along : ℤ → Type 0
@@ -167,7 +167,7 @@ module _ (cs : List Pt) (Dx Dy : ℤ) (pen : PenLaws cs Dx Dy) (g : Seg) (X : Pt
       lowest = upright (e .a) (e .b) (l .x) (l .y) (e .c) (pen .convex e l me ml) (pen .convex e _ me (pen .mirrorX l ml))
 
       highest : e .b *ℤ negℤ (l .y) ≼ e .c
-      highest = upright (e .a) (e .b) (l .x) (negℤ (l .y)) (e .c) (pen .convex e _ me (pen .mirrorY l ml)) (pen .convex e _ me (turn cs Dx Dy pen ml))
+      highest = upright (e .a) (e .b) (l .x) (negℤ (l .y)) (e .c) (pen .convex e _ me (pen .mirrorY l ml)) (pen .convex e _ me (corner-opposite cs Dx Dy pen ml))
 
       in-band : e .b *ℤ dy ≼ pos 8 *ℤ e .c
       in-band = band-le (e .b) dy (l .y) Dy (e .c) (pen .lowest .2) lowest highest (k .low) (k .high)
@@ -186,9 +186,11 @@ module _ (cs : List Pt) (Dx Dy : ℤ) (pen : PenLaws cs Dx Dy) (g : Seg) (X : Pt
       to = beyond (g .to) (sym flat) (max-r pA pB)
 
       level : e .a ≡ pos 0 → (pos 0 ≼ e .b) ⊎ (e .b ≺ pos 0) → Allows X (moved g e)
-      level q (inl h) = strict (flat-lt (e .a) (e .b) (e .c) (X .x) (X .y) (g .from .x) (g .from .y) (maxZ pA pB) q (max-l pA pB) (band-lt (e .b) dy (l .y) Dy (e .c) (pen .lowest .2) highest (k .high) (pen .thick e me) h))
+      level q (inl h) =
+          let below = band-lt (e .b) dy (l .y) Dy (e .c) (pen .lowest .2) highest (k .high) (pen .thick e me) h in
+          strict (flat-lt (e .a) (e .b) (e .c) (X .x) (X .y) (g .from .x) (g .from .y) (maxZ pA pB) q (max-l pA pB) below)
       level q (inr h) =
-          let d : kept (e .a) (e .b) ≡ true = rw q (down (e .b) h) in
+          let d : kept (e .a) (e .b) ≡ true = rw q (kept-down (e .b) h) in
           allows-kept d .1 (flat-le (e .a) (e .b) (e .c) (X .x) (X .y) (g .from .x) (g .from .y) (maxZ pA pB) q (max-l pA pB) in-band)
 
       go : (e .a ≼ pos 0) ⊎ (pos 0 ≺ e .a) → (pos 0 ≼ e .a) ⊎ (e .a ≺ pos 0) → Allows X (moved g e)
@@ -199,8 +201,8 @@ module _ (cs : List Pt) (Dx Dy : ℤ) (pen : PenLaws cs Dx Dy) (g : Seg) (X : Pt
   amid-iff : Black cs g X ↔ Band Dy (g .from) X
   amid-iff =
       let b = black-iff cs Dx Dy pen g X in (
-        (λ h. along-iff .0 (each→ (Allows X) cs g (b .0 h) .path apart)),
-        λ k. b .1 (→each (Allows X) cs g (record { edgewise = edge-allows k; path = λ _. along-iff .1 k })),
+        (λ h. along-iff .0 (sides-each (Allows X) cs g (b .0 h) .path apart)),
+        λ k. b .1 (each-side (Allows X) cs g (record { edgewise = edge-allows k; path = λ _. along-iff .1 k })),
       )
 
 -- with document 01's words for the column: the lesser x + 8 Dx ≤ x ≤ the greater x - 8 Dx

@@ -19,7 +19,7 @@ use Rattle.plane.specs.Polygon.{Side}
 use Rattle.stroke.specs.Sweep.{centre}
 use Rattle.stroke.specs.Extent.{within, Limit, free, at, Left, room, upper, lower, narrow, narrowed}
 use Rattle.stroke.proofs.Lists.{cons-all}
-use Rattle.stroke.proofs.Kept.{rightward, leftward}
+use Rattle.stroke.proofs.Kept.{kept-rightward, dropped-leftward}
 use Rattle.stroke.proofs.Black.{Allows, allows-kept, allows-dropped, within-iff}
 
 -- ---- a column within a limit
@@ -55,8 +55,8 @@ down = ring 5 _ (λ ρ. simp (reify, ρ) (omega arith))
 past : (q i : ℤ) → (q +ℤ pos 1 ≼ i) ↔ ¬ (i ≼ q)
 past = ring 2 _ (λ ρ. simp (reify, ρ) (omega arith))
 
-pub sixteen : (a : ℤ) → pos 0 ≺ a → pos 0 ≺ pos 16 *ℤ a
-sixteen = ring 1 _ (λ ρ. simp (reify, ρ) (omega arith))
+pub sixteen-pos : (a : ℤ) → pos 0 ≺ a → pos 0 ≺ pos 16 *ℤ a
+sixteen-pos = ring 1 _ (λ ρ. simp (reify, ρ) (omega arith))
 
 sixteen-neg : (a : ℤ) → a ≺ pos 0 → pos 0 ≺ pos 16 *ℤ negℤ a
 sixteen-neg = ring 1 _ (λ ρ. simp (reify, ρ) (omega arith))
@@ -67,9 +67,9 @@ flat-dot = ring 5 _ (λ ρ e. rw e (simp (reify, ρ) (omega arith)))
 module _ (i j : ℤ) where
   right-iff : (e : Side) → pos 0 ≺ e .a → (i ≼ floorDiv (room j e) (pos 16 *ℤ e .a)) ↔ Allows (centre i j) e
   right-iff e h =
-      let f = le-floorDiv (room j e) (pos 16 *ℤ e .a) i (sixteen (e .a) h) in
+      let f = le-floorDiv (room j e) (pos 16 *ℤ e .a) i (sixteen-pos (e .a) h) in
       let u = up (e .a) (e .b) (e .c) i j in
-      let k = allows-kept (rightward (e .a) (e .b) h) in
+      let k = allows-kept (kept-rightward (e .a) (e .b) h) in
       ((λ l. k .1 (u .0 (f .0 l))), λ m. f .1 (u .1 (k .0 m)))
 
   left-iff : (e : Side) → e .a ≺ pos 0 → (floorDiv (negℤ (room j e)) (pos 16 *ℤ negℤ (e .a)) +ℤ pos 1 ≼ i) ↔ Allows (centre i j) e
@@ -78,7 +78,7 @@ module _ (i j : ℤ) where
       let q = floorDiv (negℤ (room j e)) D in
       let f = le-floorDiv (negℤ (room j e)) D i (sixteen-neg (e .a) h) in
       let d = down (e .a) (e .b) (e .c) i j in
-      let k = allows-dropped (leftward (e .a) (e .b) h) in
+      let k = allows-dropped (dropped-leftward (e .a) (e .b) h) in
       ((λ l. k .1 (d .0 (λ z. past q i .0 l (f .1 z)))), λ m. past q i .1 (λ z. d .1 (k .0 m) (f .0 z)))
 
   flat-iff : (e : Side) → e .a ≡ pos 0 → Allows (centre (pos 0) j) e ↔ Allows (centre i j) e

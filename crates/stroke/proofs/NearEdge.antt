@@ -101,7 +101,8 @@ normal-z : (a b u v zx zy : ℤ) → v *ℤ (a *ℤ zx +ℤ b *ℤ zy) ≡ a *�
 normal-z = ring 6 _ (simp reify (omega arith))
 
 along-path : (a v c g nz ce zy : ℤ) → a ≼ pos 0 → pos 1 ≼ c → pos 1 ≼ v → pos 1 ≼ ce → ce ≼ nz → v *ℤ nz ≡ a *ℤ c +ℤ g *ℤ zy → g ≡ pos 0 → ⊥
-along-path = ring 7 _ (λ ρ ha hc hv hce hn e f. mul-nn (sub-nn ha) (nn hc) ⊢ mul-nn (sub-nn hv) (sub-nn hce) ⊢ mul-nn (nn hv) (sub-nn hn) ⊢ ap (λ z. z *ℤ var ρ 6) f ⊢ e ⊢ hv ⊢ hce ⊢ simp (reify, ρ) (omega arith))
+along-path = ring 7 _ (λ ρ ha hc hv hce hn e f.
+    mul-nn (sub-nn ha) (nn hc) ⊢ mul-nn (sub-nn hv) (sub-nn hce) ⊢ mul-nn (nn hv) (sub-nn hn) ⊢ ap (λ z. z *ℤ var ρ 6) f ⊢ e ⊢ hv ⊢ hce ⊢ simp (reify, ρ) (omega arith))
 
 -- ---- together
 -- z lies on the edge, and is the lowest corner where the normal points on along the path, and the highest where it points back
@@ -129,8 +130,8 @@ module _ {a b ce c u v t dx dy zx zy Dy P : ℤ} (w : Near a b ce c u v t dx dy 
         | inr h ↦ along-down g (c *ℤ dy -ℤ M *ℤ zy) c v P (w .c-some) (w .v-some) h (from-start c dy (M *ℤ zy) Dy (w .c-some) (w .row-low) (k .1)) (w .at-from)
       ]
 
-  pub meets : a *ℤ dx +ℤ b *ℤ dy ≼ pos 8 *ℤ ce +ℤ P
-  meets =
+  pub near-meets : a *ℤ dx +ℤ b *ℤ dy ≼ pos 8 *ℤ ce +ℤ P
+  near-meets =
       let N = a *ℤ dx +ℤ b *ℤ dy in
       let M = v *ℤ dx -ℤ u *ℤ dy in
       let s = pos 8 *ℤ ce +ℤ P in
@@ -138,8 +139,8 @@ module _ {a b ce c u v t dx dy zx zy Dy P : ℤ} (w : Near a b ce c u v t dx dy 
       (mul-cancel c (v *ℤ N) (v *ℤ s) (one-lt c (w .c-some))
       (sum-le c v N (M *ℤ (a *ℤ zx +ℤ b *ℤ zy)) ((a *ℤ u +ℤ b *ℤ v) *ℤ (c *ℤ dy -ℤ M *ℤ zy)) ce P (w .v-some) sum across along))
 
-  pub through : a ≼ pos 0 → pos 8 *ℤ ce +ℤ P ≼ a *ℤ dx +ℤ b *ℤ dy → Through a b ce u v zx zy Dy
-  through ha h =
+  pub near-through : a ≼ pos 0 → pos 8 *ℤ ce +ℤ P ≼ a *ℤ dx +ℤ b *ℤ dy → Through a b ce u v zx zy Dy
+  near-through ha h =
       let N = a *ℤ dx +ℤ b *ℤ dy in
       let M = v *ℤ dx -ℤ u *ℤ dy in
       let g = a *ℤ u +ℤ b *ℤ v in
@@ -149,7 +150,8 @@ module _ {a b ce c u v t dx dy zx zy Dy P : ℤ} (w : Near a b ce c u v t dx dy 
       let q : pos 8 *ℤ c *ℤ ce ≼ M *ℤ nz = mul-cancel v (pos 8 *ℤ c *ℤ ce) (M *ℤ nz) (one-lt v (w .v-some)) (full-Q c v N (M *ℤ nz) (g *ℤ T) ce P (w .c-some) (w .v-some) sum along h) in
       let eM : M ≡ pos 8 *ℤ c = le-antisymm M (pos 8 *ℤ c) (w .strip-right) (full-M c M nz ce (w .ce-some) (w .strip-left) (w .strip-right) (w .z-within) (w .z-turned) q) in
       let hn : ce ≼ nz = mul-cancel c ce nz pc (full-z c M nz ce eM q) in
-      let r : v *ℤ P ≼ g *ℤ (dy -ℤ pos 8 *ℤ zy) = mul-cancel c (v *ℤ P) (g *ℤ (dy -ℤ pos 8 *ℤ zy)) pc (drop-c c v P g M dy zy eM (full-g c v N (M *ℤ nz) (g *ℤ T) ce P (w .c-some) (w .v-some) sum across h)) in
+      let full = full-g c v N (M *ℤ nz) (g *ℤ T) ce P (w .c-some) (w .v-some) sum across h in
+      let r : v *ℤ P ≼ g *ℤ (dy -ℤ pos 8 *ℤ zy) = mul-cancel c (v *ℤ P) (g *ℤ (dy -ℤ pos 8 *ℤ zy)) pc (drop-c c v P g M dy zy eM full) in
       record { on-edge = hn; extreme = go hn r (le-or-lt (pos 0) g) (le-or-lt g (pos 0)) }
     where
       go : ce ≼ a *ℤ zx +ℤ b *ℤ zy → v *ℤ P ≼ (a *ℤ u +ℤ b *ℤ v) *ℤ (dy -ℤ pos 8 *ℤ zy) →
@@ -157,10 +159,13 @@ module _ {a b ce c u v t dx dy zx zy Dy P : ℤ} (w : Near a b ce c u v t dx dy 
           ((pos 0 ≺ a *ℤ u +ℤ b *ℤ v) × (zy ≼ negℤ Dy)) ⊎ ((a *ℤ u +ℤ b *ℤ v ≺ pos 0) × (Dy ≼ zy))
       go hn r (inr k) _ = inr (k, elim (le-or-lt Dy zy) [ inl l ↦ l | inr l ↦ absurd (highest-z v P _ dy zy Dy (w .v-some) (w .at-from) r k (w .row-low) l) ])
       go hn r (inl _) (inr k) = inl (k, lowest-z v dy zy t Dy (mul-cancel _ (t *ℤ v) (dy -ℤ pos 8 *ℤ zy) k (top-row v P _ dy zy t (w .v-some) (w .at-to) r)) (w .row-high))
-      go hn r (inl k) (inl l) = absurd (along-path a v c (a *ℤ u +ℤ b *ℤ v) (a *ℤ zx +ℤ b *ℤ zy) ce zy ha (w .c-some) (w .v-some) (w .ce-some) hn (rw (w .furthest-z) at (normal-z a b u v zx zy)) (le-antisymm _ _ l k))
+      go hn r (inl k) (inl l) =
+          let on-z = rw (w .furthest-z) at (normal-z a b u v zx zy) in
+          absurd (along-path a v c (a *ℤ u +ℤ b *ℤ v) (a *ℤ zx +ℤ b *ℤ zy) ce zy ha (w .c-some) (w .v-some) (w .ce-some) hn on-z (le-antisymm _ _ l k))
 
 -- ---- a level edge stands at the end of the path beyond the row, so it does not go through the point
-pub level-misses : (a b ce v t dx dy Dy P : ℤ) → a ≡ pos 0 → pos 1 ≼ ce → pos 1 ≼ Dy → pos 8 *ℤ Dy ≼ dy → dy ≼ t *ℤ v -ℤ pos 8 *ℤ Dy → pos 0 ≼ P → t *ℤ (b *ℤ v) ≼ P → ¬ (pos 8 *ℤ ce +ℤ P ≼ a *ℤ dx +ℤ b *ℤ dy)
+pub level-misses : (a b ce v t dx dy Dy P : ℤ) → a ≡ pos 0 → pos 1 ≼ ce → pos 1 ≼ Dy → pos 8 *ℤ Dy ≼ dy → dy ≼ t *ℤ v -ℤ pos 8 *ℤ Dy →
+    pos 0 ≼ P → t *ℤ (b *ℤ v) ≼ P → ¬ (pos 8 *ℤ ce +ℤ P ≼ a *ℤ dx +ℤ b *ℤ dy)
 level-misses a b ce v t dx dy Dy P ea hce hD lo hi hP ht n = elim (le-or-lt (pos 0) b) [ inl k ↦ up a b ce v t dx dy Dy P ea hce hD hi ht n k | inr k ↦ down a b ce dx dy Dy P ea hce hD lo hP n k ]
   where
     up : (a b ce v t dx dy Dy P : ℤ) → a ≡ pos 0 → pos 1 ≼ ce → pos 1 ≼ Dy → dy ≼ t *ℤ v -ℤ pos 8 *ℤ Dy → t *ℤ (b *ℤ v) ≼ P → pos 8 *ℤ ce +ℤ P ≼ a *ℤ dx +ℤ b *ℤ dy → pos 0 ≼ b → ⊥

@@ -13,7 +13,7 @@ use Rattle.plane.specs.Polygon.{PenLaws}
 use Rattle.stroke.specs.Sweep.{Seg, centre, Sweep}
 use Rattle.stroke.specs.Sides.{furthest}
 use Rattle.stroke.specs.Extent.{reached}
-use Rattle.stroke.proofs.Corners.{top}
+use Rattle.stroke.proofs.Corners.{furthest-corner}
 use Rattle.stroke.proofs.Inside.{outermost}
 
 -- from the bound in the direction up, and in the direction down
@@ -34,10 +34,10 @@ down-most = ring 3 _ (λ ρ. simp (reify, ρ) (omega arith))
 
 module _ (cs : List Pt) (Dx Dy : ℤ) (pen : PenLaws cs Dx Dy) where
   highest : furthest (pos 0) (pos 1) cs ≼ Dy
-  highest = let t = top cs Dx Dy pen (pos 0) (pos 1) in rw (← t .2) (at-up (t .0 .x) (t .0 .y) Dy (pen .high (t .0) (t .1)))
+  highest = let t = furthest-corner cs Dx Dy pen (pos 0) (pos 1) in rw (← t .2) (at-up (t .0 .x) (t .0 .y) Dy (pen .high (t .0) (t .1)))
 
   deepest : furthest (pos 0) (negsuc 0) cs ≼ Dy
-  deepest = let t = top cs Dx Dy pen (pos 0) (negsuc 0) in rw (← t .2) (down-most (t .0 .x) (t .0 .y) Dy (pen .high _ (pen .mirrorY (t .0) (t .1))))
+  deepest = let t = furthest-corner cs Dx Dy pen (pos 0) (negsuc 0) in rw (← t .2) (down-most (t .0 .x) (t .0 .y) Dy (pen .high _ (pen .mirrorY (t .0) (t .1))))
 
   -- the sweep from below and above
   module _ (g : Seg) (X : Pt) (w : Sweep cs g X) where
@@ -51,7 +51,8 @@ module _ (cs : List Pt) (Dx Dy : ℤ) (pen : PenLaws cs Dx Dy) where
     sweep-above =
         let m = minZ (g .from .y) (g .to .y) in
         downward (X .x) (X .y) (furthest (pos 0) (negsuc 0) cs) m Dy
-        (outermost cs Dx Dy pen g X w (pos 0) (negsuc 0) (negℤ m) (at-down (g .from .x) (g .from .y) m (min-l (g .from .y) (g .to .y))) (at-down (g .to .x) (g .to .y) m (min-r (g .from .y) (g .to .y)))) deepest
+        (outermost cs Dx Dy pen g X w (pos 0) (negsuc 0) (negℤ m) (at-down (g .from .x) (g .from .y) m (min-l (g .from .y) (g .to .y)))
+        (at-down (g .to .x) (g .to .y) m (min-r (g .from .y) (g .to .y)))) deepest
 
   pub is-reached : (g : Seg) (i j : ℤ) → Sweep cs g (centre i j) → reached cs g j ≡ true
   is-reached g i j w = rw (pen .reaches) (ap₂ _&&_ (le-iff _ (pos 16 *ℤ j) .1 (sweep-above g (centre i j) w)) (le-iff (pos 16 *ℤ j) _ .1 (sweep-below g (centre i j) w)))

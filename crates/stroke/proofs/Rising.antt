@@ -1,6 +1,6 @@
 -- Line weight, the strip: on a path that goes t times (u, v), v at least 1, a centre in a row far enough inside is black exactly when it lies in the strip between the two
 -- sides along the path, the right one with its line and the left one without. For the path's own two sides that is plain; a kept edge of the pen allows all of the strip
--- (`meets`), and a dropped one does not go through such a centre (`misses`).
+-- (`near-meets`), and a dropped one does not go through such a centre (`misses`).
 use mathlib.Core.Path.{_≡_, refl, sym, ap, _∙_, subst}
 use mathlib.Core.Logic.{_⊎_, inl, inr, _↔_, Iff·trans}
 use mathlib.Core.Bool.{false}
@@ -23,14 +23,14 @@ use Rattle.stroke.specs.Sides.{moved, furthest, touching}
 use Rattle.stroke.specs.Black.{Black}
 use Rattle.stroke.specs.Weight.{Direction, offset}
 use Rattle.stroke.proofs.Signs.{neg-neg, neg-below, times-le, times-lt}
-use Rattle.stroke.proofs.Kept.{rightward, leftward}
-use Rattle.stroke.proofs.Corners.{ends, ends-level, furthest-bound, turn, top}
+use Rattle.stroke.proofs.Kept.{kept-rightward, dropped-leftward}
+use Rattle.stroke.proofs.Corners.{edge-ends, ends-level, furthest-bound, corner-opposite, furthest-corner}
 use Rattle.stroke.proofs.Support.{one-lt}
-use Rattle.stroke.proofs.Sides.{each→, →each, differ}
+use Rattle.stroke.proofs.Sides.{sides-each, each-side, same-or-differ}
 use Rattle.stroke.proofs.Black.{Allows, allows-kept, allows-dropped, black-iff}
 use Rattle.stroke.proofs.Furthest.{above-lowest, furthest-times, furthest-turn}
 use Rattle.stroke.proofs.Window.{Strip}
-use Rattle.stroke.proofs.NearEdge.{Near, Through, meets, through, level-misses}
+use Rattle.stroke.proofs.NearEdge.{Near, Through, near-meets, near-through, level-misses}
 
 -- ---- the two sides along the path, W up and K across
 right-side : (W K h x y ax ay t u v c : ℤ) → W ≡ t *ℤ v → K ≡ t *ℤ u → h ≡ t *ℤ c →
@@ -120,7 +120,7 @@ module _ (cs : List Pt) (Dx Dy : ℤ) (pen : PenLaws cs Dx Dy) (g : Seg) (u : �
 
   -- the ends of the path differ, since it rises
   apart : same (g .from) (g .to) ≡ false
-  apart = elim (differ (g .from) (g .to)) [ inl e ↦ absurd (not-same (g .from .y) (g .to .y) rises (e .1)) | inr e ↦ e ]
+  apart = elim (same-or-differ (g .from) (g .to)) [ inl e ↦ absurd (not-same (g .from .y) (g .to .y) rises (e .1)) | inr e ↦ e ]
 
   module _ (X : Pt) where
     -- where X stands across the path
@@ -132,38 +132,41 @@ module _ (cs : List Pt) (Dx Dy : ℤ) (pen : PenLaws cs Dx Dy) (g : Seg) (u : �
     right-iff =
         let W = g .to .y -ℤ g .from .y in
         let K = g .to .x -ℤ g .from .x in
-        Iff·trans (allows-kept (rightward W (negℤ K) rises))
-        (Iff·trans (right-side W K (furthest W (negℤ K) cs) (X .x) (X .y) (g .from .x) (g .from .y) t u (pos v) (offset cs u v) (dir .upward) (dir .across) right-far) (times-le t M (pos 8 *ℤ offset cs u v) t-pos))
+        Iff·trans (allows-kept (kept-rightward W (negℤ K) rises))
+        (Iff·trans (right-side W K (furthest W (negℤ K) cs) (X .x) (X .y) (g .from .x) (g .from .y) t u (pos v) (offset cs u v) (dir .upward) (dir .across) right-far)
+        (times-le t M (pos 8 *ℤ offset cs u v) t-pos))
 
     left-iff : Allows X (touching cs (g .from) (negℤ (g .to .y -ℤ g .from .y)) (g .to .x -ℤ g .from .x)) ↔ (negℤ (pos 8 *ℤ offset cs u v) ≺ M)
     left-iff =
         let W = g .to .y -ℤ g .from .y in
         let K = g .to .x -ℤ g .from .x in
-        Iff·trans (allows-dropped (leftward (negℤ W) K (neg-below W rises)))
-        (Iff·trans (left-side W K (furthest (negℤ W) K cs) (X .x) (X .y) (g .from .x) (g .from .y) t u (pos v) (offset cs u v) (dir .upward) (dir .across) left-far) (times-lt t (negℤ (pos 8 *ℤ offset cs u v)) M t-pos))
+        Iff·trans (allows-dropped (dropped-leftward (negℤ W) K (neg-below W rises)))
+        (Iff·trans (left-side W K (furthest (negℤ W) K cs) (X .x) (X .y) (g .from .x) (g .from .y) t u (pos v) (offset cs u v) (dir .upward) (dir .across) left-far)
+        (times-lt t (negℤ (pos 8 *ℤ offset cs u v)) M t-pos))
 
     module _ (lo : g .from .y +ℤ pos 8 *ℤ Dy ≼ X .y) (hi : X .y ≼ g .to .y -ℤ pos 8 *ℤ Dy) (s : Strip (offset cs u v) u (pos v) (g .from) X) where
       -- the corner that the right side touches
       z : Pt
-      z = top cs Dx Dy pen (pos v) (negℤ u) .0
+      z = furthest-corner cs Dx Dy pen (pos v) (negℤ u) .0
 
       -- what the arithmetic of an edge in the strip asks for: the corner from the laws of the pen, the row and the strip as given
       near : (e : Side) → e ∈ edges cs →
-          Near (e .a) (e .b) (e .c) (offset cs u v) u (pos v) t (X .x -ℤ g .from .x) (X .y -ℤ g .from .y) (z .x) (z .y) Dy (maxZ (dot (e .a) (e .b) (g .from)) (dot (e .a) (e .b) (g .to)) -ℤ dot (e .a) (e .b) (g .from))
+          Near (e .a) (e .b) (e .c) (offset cs u v) u (pos v) t (X .x -ℤ g .from .x) (X .y -ℤ g .from .y) (z .x) (z .y) Dy
+          (maxZ (dot (e .a) (e .b) (g .from)) (dot (e .a) (e .b) (g .to)) -ℤ dot (e .a) (e .b) (g .from))
       unfolding z
       near e me =
           let A = g .from in
           let B = g .to in
-          let mz = top cs Dx Dy pen (pos v) (negℤ u) .1 in
+          let mz = furthest-corner cs Dx Dy pen (pos v) (negℤ u) .1 in
           let pA = dot (e .a) (e .b) A in
           let pB = dot (e .a) (e .b) B in
           record {
             c-some = c-some;
             v-some = v-some;
             ce-some = pen .thick e me;
-            furthest-z = top cs Dx Dy pen (pos v) (negℤ u) .2;
+            furthest-z = furthest-corner cs Dx Dy pen (pos v) (negℤ u) .2;
             z-within = pen .convex e z me mz;
-            z-turned = turned-z (e .a) (e .b) (z .x) (z .y) (e .c) (pen .convex e _ me (turn cs Dx Dy pen mz));
+            z-turned = turned-z (e .a) (e .b) (z .x) (z .y) (e .c) (pen .convex e _ me (corner-opposite cs Dx Dy pen mz));
             z-low = above-lowest cs Dx Dy pen mz;
             z-high = pen .high z mz;
             row-low = row-from (X .y) (A .y) Dy lo;
@@ -189,7 +192,8 @@ module _ (cs : List Pt) (Dx Dy : ℤ) (pen : PenLaws cs Dx Dy) (g : Seg) (u : �
               let w = near e me in
               let D = e .a *ℤ u +ℤ e .b *ℤ pos v in
               let ez = le-antisymm (dot (e .a) (e .b) z) (e .c) (w .z-within) (r .on-edge) in
-              let at : (y : Pt) → y ∈ cs → dot (e .a) (e .b) y ≡ e .c → D *ℤ (y .y -ℤ z .y) ≼ pos 0 = λ y m ey. no-further (e .a) (e .b) (e .c) (offset cs u v) u (pos v) (z .x) (z .y) (y .x) (y .y) ha ey ez (furthest-bound (pos v) (negℤ u) cs m) (w .furthest-z) in
+              let at : (y : Pt) → y ∈ cs → dot (e .a) (e .b) y ≡ e .c → D *ℤ (y .y -ℤ z .y) ≼ pos 0 = λ y m ey.
+              no-further (e .a) (e .b) (e .c) (offset cs u v) u (pos v) (z .x) (z .y) (y .x) (y .y) ha ey ez (furthest-bound (pos v) (negℤ u) cs m) (w .furthest-z) in
               elim (r .extreme) [
                 | inl s ↦ both-up D (p .y -ℤ z .y) (s .0) (p-above (p .y) (q .y) (z .y) Dy k (above-lowest cs Dx Dy pen mq) (s .1)) (at p mp refl)
                 | inr s ↦ both-down D (q .y -ℤ z .y) (s .0) (q-below (p .y) (q .y) (z .y) Dy k (pen .high p mp) (s .1)) (at q mq (ends-level (p .x) (p .y) (q .x) (q .y)))
@@ -200,7 +204,7 @@ module _ (cs : List Pt) (Dx Dy : ℤ) (pen : PenLaws cs Dx Dy) (g : Seg) (u : �
               let w = near e me in
               let ea = le-antisymm (e .a) (pos 0) ha k in
               level-misses (e .a) (e .b) (e .c) (pos v) t _ _ Dy _ ea (w .ce-some) (pen .somehigh) (w .row-low) (w .row-high) (w .at-from) (level-way (e .a) (e .b) t u (pos v) _ ea (w .at-to)) n
-          go (inr k) = slant k (through (near e me) ha n)
+          go (inr k) = slant k (near-through (near e me) ha n)
 
       -- so a dropped edge allows X too
       edge-allows : (p q : Pt) → p ∈ cs → q ∈ cs → edge p q ∈ edges cs → Allows X (moved g (edge p q))
@@ -208,10 +212,10 @@ module _ (cs : List Pt) (Dx Dy : ℤ) (pen : PenLaws cs Dx Dy) (g : Seg) (u : �
           let e = edge p q in
           let m = maxZ (dot (e .a) (e .b) (g .from)) (dot (e .a) (e .b) (g .to)) in
           record {
-            with = λ _. out-of (e .a) (e .b) (e .c) (X .x) (X .y) (g .from .x) (g .from .y) m (meets (near e me));
+            with = λ _. out-of (e .a) (e .b) (e .c) (X .x) (X .y) (g .from .x) (g .from .y) m (near-meets (near e me));
             without = λ k. elim (le-or-lt (moved g e .c) (dot (e .a) (e .b) X)) [
               | inr l ↦ l
-              | inl l ↦ absurd (elim (le-or-lt (e .a) (pos 0)) [ inr h ↦ clash (rightward (e .a) (e .b) h) k | inl h ↦ misses p q mp mq me h l ])
+              | inl l ↦ absurd (elim (le-or-lt (e .a) (pos 0)) [ inr h ↦ clash (kept-rightward (e .a) (e .b) h) k | inl h ↦ misses p q mp mq me h l ])
             ];
           }
 
@@ -219,9 +223,9 @@ module _ (cs : List Pt) (Dx Dy : ℤ) (pen : PenLaws cs Dx Dy) (g : Seg) (u : �
     pub rising-iff : g .from .y +ℤ pos 8 *ℤ Dy ≼ X .y → X .y ≼ g .to .y -ℤ pos 8 *ℤ Dy → Black cs g X ↔ Strip (offset cs u v) u (pos v) (g .from) X
     rising-iff lo hi =
         let k = black-iff cs Dx Dy pen g X in (
-          (λ h. let p = each→ (Allows X) cs g (k .0 h) .path apart in record { left = left-iff .0 (p .1); right = right-iff .0 (p .0) }),
-          λ s. k .1 (→each (Allows X) cs g (record {
-            edgewise = λ e m. let r = ends cs m in subst (λ (d : Side). Allows X (moved g d)) (sym (r .4)) (edge-allows lo hi s (r .0) (r .1) (r .2) (r .3) (cast (sym (r .4)) m));
+          (λ h. let p = sides-each (Allows X) cs g (k .0 h) .path apart in record { left = left-iff .0 (p .1); right = right-iff .0 (p .0) }),
+          λ s. k .1 (each-side (Allows X) cs g (record {
+            edgewise = λ e m. let r = edge-ends cs m in subst (λ (d : Side). Allows X (moved g d)) (sym (r .4)) (edge-allows lo hi s (r .0) (r .1) (r .2) (r .3) (cast (sym (r .4)) m));
             path = λ _. (right-iff .1 (s .right), left-iff .1 (s .left));
           })),
         )

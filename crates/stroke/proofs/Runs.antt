@@ -8,9 +8,8 @@ use native.Mathlib.Omega.{arith}
 use native.Mathlib.Decide.{decLe}
 use lib.Dec.{T, leb, leb→le, nleb→lt}
 use lib.ListN.{length}
-use Rattle.integers.specs.Count.{_∈_}
 use Rattle.stroke.specs.Runs.{Run, Apart, Covers, Longest, join, runsFrom, runsOf}
-use Rattle.stroke.proofs.Apart.{longest-in, longest-few}
+use Rattle.stroke.proofs.Apart.{longest-few}
 
 -- ---- one column before the runs that start later
 record Step (b : Bool) (i : ℕ) (rs js : List Run) : Type 0 where
@@ -88,9 +87,6 @@ runs-of f n = record {
   apart = runs-apart f 0 n;
   cover = λ x. let r = runs-cover f 0 n x in ((λ c. let d = r .0 c in (omega arith, d .2)), λ c. r .1 (omega arith, omega arith, c .1));
 }
-
-pub runs-in : (f : ℕ → Bool) (n : ℕ) (r : Run) → r ∈ runsOf f n → (r .left ≤ r .right) × (r .right < n)
-runs-in f n = longest-in (runs-of f n)
 
 pub runs-few : (f : ℕ → Bool) (n : ℕ) → 2 * length (runsOf f n) ≤ n + 1
 runs-few f n = longest-few (runs-of f n)

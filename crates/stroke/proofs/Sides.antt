@@ -36,16 +36,16 @@ two-if false p q (List·Memᴰ·tail (List·Memᴰ·head h)) = (refl, inr h)
 two-if false p q (List·Memᴰ·tail (List·Memᴰ·tail m)) = absurd (List·Memᴰ·not-nil m)
 
 module _ (Q : Side → Type 0) (cs : List Pt) (g : Seg) where
-  pub each→ : ((e : Side) → e ∈ sides cs g → Q e) → OfSides Q cs g
+  pub sides-each : ((e : Side) → e ∈ sides cs g → Q e) → OfSides Q cs g
   unfolding sides
-  each→ h = record {
+  sides-each h = record {
     edgewise = λ e m. h _ (Memᴰ·append-left (pathSides cs g) (Memᴰ·map (moved g) m));
     path = λ d. let r = if-two _ _ _ d in (h _ (Memᴰ·append-right (map (moved g) (edges cs)) (r .0)), h _ (Memᴰ·append-right (map (moved g) (edges cs)) (r .1)));
   }
 
-  pub →each : OfSides Q cs g → (e : Side) → e ∈ sides cs g → Q e
+  pub each-side : OfSides Q cs g → (e : Side) → e ∈ sides cs g → Q e
   unfolding sides
-  →each h e m = go (List·Memᴰ·append-cases (map (moved g) (edges cs)) m)
+  each-side h e m = go (List·Memᴰ·append-cases (map (moved g) (edges cs)) m)
     where
       pick : (p q : Side) → Q p × Q q → (e ≡ p) ⊎ (e ≡ q) → Q e
       pick p q k (inl h) = subst Q (sym h) (k .0)
@@ -56,8 +56,8 @@ module _ (Q : Side → Type 0) (cs : List Pt) (g : Seg) where
       go (inr k) = let r = two-if (same (g .from) (g .to)) _ _ k in pick _ _ (h .path (r .0)) (r .1)
 
 -- the two ends of a segment are equal, or the test says that they differ
-pub differ : (A B : Pt) → ((A .x ≡ B .x) × (A .y ≡ B .y)) ⊎ (same A B ≡ false)
-differ A B = go (same A B) refl
+pub same-or-differ : (A B : Pt) → ((A .x ≡ B .x) × (A .y ≡ B .y)) ⊎ (same A B ≡ false)
+same-or-differ A B = go (same A B) refl
   where
     go : (t : Bool) → same A B ≡ t → ((A .x ≡ B .x) × (A .y ≡ B .y)) ⊎ (t ≡ false)
     go true e = let h = and-both (eqZ (A .x) (B .x)) (eqZ (A .y) (B .y)) e in inl (eqz (A .x) (B .x) (h .0), eqz (A .y) (B .y) (h .1))

@@ -12,7 +12,7 @@ use Rattle.plane.specs.Point.{Pt}
 use Rattle.plane.specs.Polygon.{dot, edge, PenLaws}
 use Rattle.stroke.specs.Sweep.{InPen}
 use Rattle.stroke.specs.Sides.{furthest}
-use Rattle.stroke.proofs.Corners.{after, before, ends-level, furthest-bound, furthest-nn, top}
+use Rattle.stroke.proofs.Corners.{edge-after, edge-before, ends-level, furthest-bound, furthest-nn, furthest-corner}
 
 pub one-lt : (c : ℤ) → pos 1 ≼ c → pos 0 ≺ c
 one-lt = ring 1 _ (λ ρ. simp (reify, ρ) (omega arith))
@@ -41,23 +41,23 @@ flat-bound : (β ce E M H k w : ℤ) → pos 0 ≼ β → β ≼ pos 0 → ce *�
 flat-bound = ring 7 _ (λ ρ h1 h2 e hH hE. mul-nn hH (sub-nn hE) ⊢ ap (λ z. z *ℤ var ρ 6) (le-antisymm (var ρ 0) (pos 0) h2 h1) ⊢ e ⊢ simp (reify, ρ) (omega arith))
 
 module _ (cs : List Pt) (Dx Dy : ℤ) (pen : PenLaws cs Dx Dy) where
-  pub support : (a b k : ℤ) (Z : Pt) → InPen cs k Z → dot a b Z ≼ k *ℤ (pos 8 *ℤ furthest a b cs)
-  support a b k Z h =
-      let t = top cs Dx Dy pen a b in
+  pub pen-support : (a b k : ℤ) (Z : Pt) → InPen cs k Z → dot a b Z ≼ k *ℤ (pos 8 *ℤ furthest a b cs)
+  pen-support a b k Z h =
+      let t = furthest-corner cs Dx Dy pen a b in
       let z = t .0 in
       let m = t .1 in
-      let p = before cs m .0 in
-      let q = after cs m .0 in
+      let p = edge-before cs m .0 in
+      let q = edge-after cs m .0 in
       let e = edge p z in
       let f = edge z q in
-      let me = before cs m .2 in
-      let mf = after cs m .2 in
-      let hq : dot a b q ≼ dot a b z = rw (t .2) (furthest-bound a b cs (after cs m .1)) in
-      let hp : dot a b p ≼ dot a b z = rw (t .2) (furthest-bound a b cs (before cs m .1)) in
+      let me = edge-before cs m .2 in
+      let mf = edge-after cs m .2 in
+      let hq : dot a b q ≼ dot a b z = rw (t .2) (furthest-bound a b cs (edge-after cs m .1)) in
+      let hp : dot a b p ≼ dot a b z = rw (t .2) (furthest-bound a b cs (edge-before cs m .1)) in
       let α = dot a b z -ℤ dot a b q in
       let β = dot a b z -ℤ dot a b p in
       let γ = e .c -ℤ dot (e .a) (e .b) q in
-      let hγ : pos 0 ≼ γ = sub-nn (pen .convex e q me (after cs m .1)) in
+      let hγ : pos 0 ≼ γ = sub-nn (pen .convex e q me (edge-after cs m .1)) in
       let H = dot a b z in
       let hH : pos 0 ≼ H = rw (t .2) (furthest-nn a b cs) in
       let M = dot a b Z in

@@ -20,8 +20,8 @@ use Rattle.plane.specs.Point.{Pt, same}
 use Rattle.plane.specs.Polygon.{Side, dot, edges, PenLaws}
 use Rattle.stroke.specs.Sweep.{Seg, Sweep}
 use Rattle.stroke.specs.Sides.{furthest, touching, sides}
-use Rattle.stroke.proofs.Corners.{top}
-use Rattle.stroke.proofs.Sides.{Meets, OfSides, each→, differ}
+use Rattle.stroke.proofs.Corners.{furthest-corner}
+use Rattle.stroke.proofs.Sides.{Meets, OfSides, sides-each, same-or-differ}
 use Rattle.stroke.proofs.Inside.{sweep→sides}
 use Rattle.stroke.proofs.Greatest.{Greatest, greatest}
 
@@ -108,15 +108,16 @@ module _ (cs : List Pt) (Dx Dy : ℤ) (pen : PenLaws cs Dx Dy) (g : Seg) (X : Pt
           ((x y : ℤ) → γ *ℤ (a *ℤ x +ℤ b *ℤ y) ≡ negℤ (give g f) *ℤ (e .a *ℤ x +ℤ e .b *ℤ y) +ℤ give g e *ℤ (f .a *ℤ x +ℤ f .b *ℤ y)) → give g e *ℤ lack g X f ≼ lack g X e *ℤ give g f
       on γ a b hγ t id =
           let A = g .from in
-          let T = top cs Dx Dy pen a b in
+          let T = furthest-corner cs Dx Dy pen a b in
           let z = T .0 in
           let x = X .x -ℤ A .x in
           let y = X .y -ℤ A .y in
           pair (give g f) (give g e) γ (a *ℤ x +ℤ b *ℤ y) (e .a *ℤ x +ℤ e .b *ℤ y) (f .a *ℤ x +ℤ f .b *ℤ y) (furthest a b cs) (dot (e .a) (e .b) z) (dot (f .a) (f .b) z) (e .c) (f .c)
-          hf (lt-le (pos 0) (give g e) he) hγ (at-from a b (pos 8 *ℤ furthest a b cs) (X .x) (X .y) (A .x) (A .y) t) (id x y) (rw (T .2) at (id (z .x) (z .y))) (pen .convex e z me (T .1)) (pen .convex f z mf (T .1))
+          hf (lt-le (pos 0) (give g e) he) hγ (at-from a b (pos 8 *ℤ furthest a b cs) (X .x) (X .y) (A .x) (A .y) t) (id x y) (rw (T .2) at (id (z .x) (z .y)))
+          (pen .convex e z me (T .1)) (pen .convex f z mf (T .1))
 
   low : (e : Side) → e ∈ edges cs → pos 0 ≺ give g e → Low cs g X (lack g X e) (give g e)
-  low e m h = elim (differ (g .from) (g .to)) [
+  low e m h = elim (same-or-differ (g .from) (g .to)) [
     | inl q ↦ absurd (no-way (e .a) (e .b) (g .from .x) (g .from .y) (g .to .x) (g .to .y) (q .0) (q .1) h)
     | inr d ↦
         let A = g .from in
@@ -141,4 +142,4 @@ module _ (cs : List Pt) (Dx Dy : ℤ) (pen : PenLaws cs Dx Dy) (g : Seg) (X : Pt
       bound e m = elim (le-or-lt (give g e) (pos 0)) [ inl h ↦ t .good .1 e m h | inr h ↦ t .above e m h ]
 
 pub sweep-iff : (cs : List Pt) (Dx Dy : ℤ) → PenLaws cs Dx Dy → (g : Seg) (X : Pt) → Sweep cs g X ↔ ((e : Side) → e ∈ sides cs g → Meets X e)
-sweep-iff cs Dx Dy pen g X = (sweep→sides cs Dx Dy pen g X, λ every. covered cs Dx Dy pen g X (each→ (Meets X) cs g every))
+sweep-iff cs Dx Dy pen g X = (sweep→sides cs Dx Dy pen g X, λ every. covered cs Dx Dy pen g X (sides-each (Meets X) cs g every))

@@ -1,13 +1,13 @@
 -- The claims of specs/Theorems.antt, each under its name there.
 use Rattle.stroke.specs.Theorems.{KeptHas, SweepSides, BlackTest, ExtentBlack, RunsLongest, LongestUnique, RowsHold, ColumnHolds}
-use Rattle.stroke.proofs.Kept.{has}
+use Rattle.stroke.proofs.Kept.{kept-laws}
 use Rattle.stroke.proofs.Sweep.{sweep-iff}
 use Rattle.stroke.proofs.Black.{test-iff}
 use Rattle.stroke.proofs.Columns.{extent-iff}
 use Rattle.stroke.proofs.WeightTheorems as weights
 
 pub kept-has : KeptHas
-kept-has = has
+kept-has = kept-laws
 
 pub sweep-sides : SweepSides
 sweep-sides = sweep-iff

@@ -2,7 +2,8 @@
 -- are black ones in those rows; and a column is covered by as many rows' runs as it has black pixels. Both for any property of pixels: no shape is used, and no sum of floors.
 use mathlib.Core.Path.{_≡_, refl, sym, ap, ap₂, subst}
 use mathlib.Core.Logic.{_↔_, _⊎_, inl, inr}
-use mathlib.Core.List.{List, [], _∷_, _++_, List·Memᴰ·head as head, List·Memᴰ·tail as tail, List·Memᴰ·not-nil as not-nil, List·Memᴰ·cases-cons as cases, List·Memᴰ·append-cases as append-cases, Memᴰ·append-left as append-left, Memᴰ·append-right as append-right}
+use mathlib.Core.List.{List, [], _∷_, _++_, List·Memᴰ·head as head, List·Memᴰ·tail as tail, List·Memᴰ·not-nil as not-nil, List·Memᴰ·cases-cons as cases}
+use mathlib.Core.List.{List·Memᴰ·append-cases as append-cases, Memᴰ·append-left as append-left, Memᴰ·append-right as append-right}
 use Prim.Native.Nat.{ℕ, zero, suc, _+_, _-_, _≤_, _<_}
 use native.Mathlib.Omega.{arith}
 use native.Mathlib.Decide.{decLt}
@@ -16,7 +17,7 @@ use Rattle.integers.proofs.Order.{le-or-lt}
 use Rattle.integers.proofs.Count.{number-iff, number-map, number-unique}
 use Rattle.stroke.specs.Runs.{Run, Apart, Covers, Longest, holds}
 use Rattle.stroke.specs.Weight.{Pixel, InRows}
-use Rattle.stroke.proofs.Apart.{from}
+use Rattle.stroke.proofs.Apart.{apart-from}
 
 -- ---- two properties that exclude one another
 once-both : {A : Type 0} (l k : List A) → NoDup l → NoDup k → ((x : A) → x ∈ l → x ∈ k → ⊥) → NoDup (l ++ k)
@@ -53,7 +54,7 @@ stretch l (suc n) =
 pub runs-number : (lo : ℕ) (rs : List Run) → Apart lo rs → Number (Covers rs) (holds rs)
 runs-number lo [] a = number-none _ (λ x c. c)
 runs-number lo (r ∷ rs) a =
-    number-or (λ x. (r .left ≤ x) × (x ≤ r .right)) (Covers rs) _ (λ x h c. omega (arith, from (r .right + 2) rs x (a .2) c)) (λ x. ((λ c. c), λ c. c))
+    number-or (λ x. (r .left ≤ x) × (x ≤ r .right)) (Covers rs) _ (λ x h c. omega (arith, apart-from (r .right + 2) rs x (a .2) c)) (λ x. ((λ c. c), λ c. c))
     (number-iff _ _ (λ x. ((λ h. (h .0, omega arith)), λ h. (h .0, omega arith))) (stretch (r .left) (r .right - r .left + 1)))
     (runs-number (r .right + 2) rs (a .2))
 
@@ -89,14 +90,14 @@ last-row j i n h k = h ⊢ k ⊢ here (j ∷ i ∷ []) λ ρ a b. simp (reify, �
 not-old : (j i : ℤ) (n : ℕ) → i ≺ j +ℤ pos n → i ≡ j +ℤ pos n → ⊥
 not-old j i n h k = h ⊢ k ⊢ here (j ∷ i ∷ []) λ ρ a b. simp (reify, ρ, a, b) (omega arith)
 
-module _ (wide : ℕ) (black : Pixel → Type 0) where
+module _ (columns : ℕ) (black : Pixel → Type 0) where
   -- no black pixel of the row lies beside the raster
   abbrev pub Uncut : ℤ → Type 0
-  Uncut j = (i : ℤ) → black (pixel i j) → (pos 0 ≼ i) × (i ≺ pos wide)
+  Uncut j = (i : ℤ) → black (pixel i j) → (pos 0 ≼ i) × (i ≺ pos columns)
 
   -- the longest runs of the row's black columns
   abbrev pub RowOf : ℤ → List Run → Type 0
-  RowOf j rs = Longest (λ x. black (pixel (pos x) j)) wide rs
+  RowOf j rs = Longest (λ x. black (pixel (pos x) j)) columns rs
 
   abbrev InRow : ℤ → Pixel → Type 0
   InRow j p = (p .row ≡ j) × black p
@@ -110,10 +111,11 @@ module _ (wide : ℕ) (black : Pixel → Type 0) where
           let b : black (pixel (p .column) j) = subst (λ (z : ℤ). black (pixel (p .column) z)) (h .0) (h .1) in
           let c = uncut (p .column) b in
           let e = pos-abs (p .column) (c .0) in
-          (l .cover (natAbs (p .column)) .1 (below (p .column) wide (c .0) (c .1), subst (λ (z : ℤ). black (pixel z j)) e b), ap₂ pixel e (h .0))
+          (l .cover (natAbs (p .column)) .1 (below (p .column) columns (c .0) (c .1), subst (λ (z : ℤ). black (pixel z j)) e b), ap₂ pixel e (h .0))
 
   -- n rows: the rows before the last one, and that one
-  pub total-number : (j : ℤ) (rs : ℕ → List Run) (n : ℕ) → ((k : ℕ) → k < n → Uncut (j +ℤ pos k)) → ((k : ℕ) → k < n → RowOf (j +ℤ pos k) (rs k)) → Number (λ p. InRows j n (p .row) × black p) (total rs n)
+  pub total-number : (j : ℤ) (rs : ℕ → List Run) (n : ℕ) → ((k : ℕ) → k < n → Uncut (j +ℤ pos k)) → ((k : ℕ) → k < n → RowOf (j +ℤ pos k) (rs k)) →
+      Number (λ p. InRows j n (p .row) × black p) (total rs n)
   unfolding total
   total-number j rs zero uncut ans = number-none _ (λ p h. no-row j (p .row) (h .0))
   total-number j rs (suc n) uncut ans =
@@ -129,7 +131,8 @@ module _ (wide : ℕ) (black : Pixel → Type 0) where
       merge p (inr h) = (new-row j (p .row) n (h .0), h .1)
 
   -- so where the black pixels of the rows are known to be c, the runs hold c
-  pub total-is : (j : ℤ) (rs : ℕ → List Run) (n c : ℕ) → ((k : ℕ) → k < n → Uncut (j +ℤ pos k)) → ((k : ℕ) → k < n → RowOf (j +ℤ pos k) (rs k)) → Number (λ p. InRows j n (p .row) × black p) c → total rs n ≡ c
+  pub total-is : (j : ℤ) (rs : ℕ → List Run) (n c : ℕ) → ((k : ℕ) → k < n → Uncut (j +ℤ pos k)) → ((k : ℕ) → k < n → RowOf (j +ℤ pos k) (rs k)) →
+      Number (λ p. InRows j n (p .row) × black p) c → total rs n ≡ c
   total-is j rs n c uncut ans N = number-unique (λ p. InRows j n (p .row) × black p) (total-number j rs n uncut ans) N
 
 -- ---- one column, over the rows of a raster
@@ -137,11 +140,11 @@ module _ (wide : ℕ) (black : Pixel → Type 0) where
 abbrev pub CoversZ : List Run → ℤ → Type 0
 CoversZ rs i = (x : ℕ) × (i ≡ pos x) × Covers rs x
 
-pub covered-rows : (wide rows : ℕ) (black : Pixel → Type 0) (i : ℤ) (rs : ℕ → List Run) (d : ℕ) →
-    ((j : ℤ) → black (pixel i j) → (pos 0 ≼ i) × (i ≺ pos wide) × (pos 0 ≼ j) × (j ≺ pos rows)) →
-    ((j : ℕ) → j < rows → RowOf wide black (pos j) (rs j)) →
+pub covered-rows : (columns rows : ℕ) (black : Pixel → Type 0) (i : ℤ) (rs : ℕ → List Run) (d : ℕ) →
+    ((j : ℤ) → black (pixel i j) → (pos 0 ≼ i) × (i ≺ pos columns) × (pos 0 ≼ j) × (j ≺ pos rows)) →
+    ((j : ℕ) → j < rows → RowOf columns black (pos j) (rs j)) →
     Number (λ j. black (pixel i j)) d → Number (λ j. (j < rows) × CoversZ (rs j) i) d
-covered-rows wide rows black i rs d uncut ans = number-map (λ j. black (pixel i j)) _ natAbs pos (λ j b. sym (pos-abs j (uncut j b .2))) to (λ j h. (back j h, refl))
+covered-rows columns rows black i rs d uncut ans = number-map (λ j. black (pixel i j)) _ natAbs pos (λ j b. sym (pos-abs j (uncut j b .2))) to (λ j h. (back j h, refl))
   where
     to : (j : ℤ) → black (pixel i j) → (natAbs j < rows) × CoversZ (rs (natAbs j)) i
     to j b =
@@ -149,7 +152,7 @@ covered-rows wide rows black i rs d uncut ans = number-map (λ j. black (pixel i
         let e = pos-abs i (c .0) in
         let f = pos-abs j (c .2) in
         let l = below j rows (c .2) (c .3) in
-        (l, (natAbs i, e, ans (natAbs j) l .cover (natAbs i) .1 (below i wide (c .0) (c .1), subst (λ (z : ℤ). black (pixel z (pos (natAbs j)))) e (subst (λ (z : ℤ). black (pixel i z)) f b))))
+        (l, (natAbs i, e, ans (natAbs j) l .cover (natAbs i) .1 (below i columns (c .0) (c .1), subst (λ (z : ℤ). black (pixel z (pos (natAbs j)))) e (subst (λ (z : ℤ). black (pixel i z)) f b))))
 
     back : (j : ℕ) → (j < rows) × CoversZ (rs j) i → black (pixel i (pos j))
     back j h = let (x, e, c) = h .1 in subst (λ (z : ℤ). black (pixel z (pos j))) (sym e) (ans j (h .0) .cover x .0 c .1)

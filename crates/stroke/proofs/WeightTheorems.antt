@@ -27,8 +27,8 @@ passed false = ((λ h. absurd h), λ e. clash e refl)
 
 -- the test of a column says whether it is black for the path
 pub runs-longest : RunsLongest
-runs-longest cs Dx Dy pen path wide j =
-    longest-iff (runs-of (λ x. blackAt cs path (pos j) (pos x)) wide) (λ x. BlackPath cs path (centre (pos x) (pos j)))
+runs-longest cs Dx Dy pen path columns j =
+    longest-iff (runs-of (λ x. blackAt cs path (pos j) (pos x)) columns) (λ x. BlackPath cs path (centre (pos x) (pos j)))
     (λ x _. Iff·trans (passed (blackAt cs path (pos j) (pos x))) (black-path cs Dx Dy pen path (pos x) (pos j)))
 
 pub longest-unique : LongestUnique

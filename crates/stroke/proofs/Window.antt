@@ -1,5 +1,6 @@
--- How many pixels lie in a window. Of the strip along a direction (u, v) without common factor, v neighbouring rows hold c: for each n they have exactly one pixel (i, j) with
--- v i - u j = n, and the strip is c neighbouring values of n. Of the band along a level path, a column holds as many as the band is pixels high.
+-- How many pixels lie in a window, steps 1 and 3 of the idea at the top of specs/Weight. Of the strip along a direction (u, v) without common factor,
+-- v neighbouring rows hold c: for each n they have exactly one pixel (i, j) with v i - u j = n, and the strip is c neighbouring values of n. Of the band
+-- along a level path, a column holds as many as the band is pixels high.
 use mathlib.Core.Path.{_≡_, ap, ap₂, _∙_}
 use mathlib.Core.Logic.{_↔_}
 use mathlib.Core.List.{[], _∷_}

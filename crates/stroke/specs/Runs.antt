@@ -1,15 +1,14 @@
 -- Document 01, "Which pixels are black": "Runs are the longest unbroken stretches, so touching ones are joined"; and each row's runs are cut to the raster.
 use mathlib.Core.Logic.{_⊎_, _↔_}
-use mathlib.Core.Bool.{Bool, true, false, cond, _||_}
+use mathlib.Core.Bool.{Bool, true, false, cond, _&&_, _||_}
 use mathlib.Core.List.{List, [], _∷_}
 use Prim.Native.Nat.{ℕ, zero, suc, _+_, _-_, _≤_, _<_}
 use lib.Dec.{leb}
 use lib.IntN.{ℤ, pos}
 use lib.Signed.{leZ}
-use mathlib.Core.Bool.{_&&_}
 use Rattle.plane.specs.Point.{Pt}
-use Rattle.stroke.specs.Sweep.{Seg, segments}
-use Rattle.stroke.specs.Extent.{Span, none, columns, extent}
+use Rattle.stroke.specs.Sweep.{segments}
+use Rattle.stroke.specs.Extent.{Span, none, columns as from-to, extent}
 
 -- "A run .. covers the columns from left to right, both included"
 pub record Run : Type 0 where
@@ -52,7 +51,7 @@ runsOf f n = runsFrom f 0 n
 -- column i is in the span
 abbrev pub inSpan : Span → ℤ → Bool
 inSpan none i = false
-inSpan (columns first last) i = leZ first i && leZ i last
+inSpan (from-to first last) i = leZ first i && leZ i last
 
 abbrev pub any : {A : Type 0} → (A → Bool) → List A → Bool
 any t [] = false
@@ -64,4 +63,4 @@ blackAt cs path j i = any (λ g. inSpan (extent cs g j) i) (segments path)
 
 -- the runs of row j, cut to the raster's columns
 abbrev pub rowRuns : List Pt → List Pt → ℕ → ℕ → List Run
-rowRuns cs path wide j = runsOf (λ x. blackAt cs path (pos j) (pos x)) wide
+rowRuns cs path columns j = runsOf (λ x. blackAt cs path (pos j) (pos x)) columns

@@ -16,28 +16,32 @@ use Rattle.stroke.specs.Extent.{blackTest, In, extent}
 use Rattle.stroke.specs.Runs.{Run, Longest, rowRuns}
 use Rattle.stroke.specs.Weight.{WeightOfRows, WeightOfColumn}
 
+-- what is claimed holds of every pen with the laws: of its corners, its width and its height, in half pixels
+abbrev pub EveryPen : (List Pt → ℤ → ℤ → Type 0) → Type 0
+EveryPen claim = (cs : List Pt) (Dx Dy : ℤ) → PenLaws cs Dx Dy → claim cs Dx Dy
+
 -- 1. in the sweep by existence exactly when within every side
 abbrev pub SweepSides : Type 0
-SweepSides = (cs : List Pt) (Dx Dy : ℤ) → PenLaws cs Dx Dy → (g : Seg) (X : Pt) → Sweep cs g X ↔ ((e : Side) → e ∈ sides cs g → dot (e .a) (e .b) X ≼ e .c)
+SweepSides = EveryPen λ cs Dx Dy. (g : Seg) (X : Pt) → Sweep cs g X ↔ ((e : Side) → e ∈ sides cs g → dot (e .a) (e .b) X ≼ e .c)
 
 -- 2. black by existence exactly when the test is passed. (That a centre outside the sweep is not black, even where a side drawn longer meets it, is `swept`.)
 abbrev pub BlackTest : Type 0
-BlackTest = (cs : List Pt) (Dx Dy : ℤ) → PenLaws cs Dx Dy → (g : Seg) (X : Pt) → (blackTest cs g X ≡ true) ↔ Black cs g X
+BlackTest = EveryPen λ cs Dx Dy. (g : Seg) (X : Pt) → (blackTest cs g X ≡ true) ↔ Black cs g X
 
 -- 3. a column is black for a segment exactly when it lies in the extent
 abbrev pub ExtentBlack : Type 0
-ExtentBlack = (cs : List Pt) (Dx Dy : ℤ) → PenLaws cs Dx Dy → (g : Seg) (i j : ℤ) → In (extent cs g j) i ↔ Black cs g (centre i j)
+ExtentBlack = EveryPen λ cs Dx Dy. (g : Seg) (i j : ℤ) → In (extent cs g j) i ↔ Black cs g (centre i j)
 
 -- 4. the computed runs are the longest runs of the black columns of the raster; and such a list is unique
 abbrev pub RunsLongest : Type 0
-RunsLongest = (cs : List Pt) (Dx Dy : ℤ) → PenLaws cs Dx Dy → (path : List Pt) (wide j : ℕ) → Longest (λ x. BlackPath cs path (centre (pos x) (pos j))) wide (rowRuns cs path wide j)
+RunsLongest = EveryPen λ cs Dx Dy. (path : List Pt) (columns j : ℕ) → Longest (λ x. BlackPath cs path (centre (pos x) (pos j))) columns (rowRuns cs path columns j)
 
 abbrev pub LongestUnique : Type 1
 LongestUnique = (black : ℕ → Type 0) (n : ℕ) (rs ss : List Run) → Longest black n rs → Longest black n ss → rs ≡ ss
 
--- 5. and 6. line weight over pixels
+-- 5. and 6. line weight over pixels; the top of Weight tells why it is true
 abbrev pub RowsHold : Type 0
-RowsHold = (cs : List Pt) (Dx Dy : ℤ) → PenLaws cs Dx Dy → WeightOfRows cs Dy
+RowsHold = EveryPen λ cs Dx Dy. WeightOfRows cs Dy
 
 abbrev pub ColumnHolds : Type 0
 ColumnHolds = (cs : List Pt) (Dx : ℤ) (Dy : ℕ) → PenLaws cs Dx (pos Dy) → WeightOfColumn cs Dx Dy

@@ -1,14 +1,27 @@
 -- Document 01, "Line weight": what demand 3 counts, over pixels.
+--
+-- Why it is true, the idea of the whole crate. Let the path go from A in the direction (u, v), without common factor and v at least 1, and call
+-- v i - u j the value of the pixel (i, j): pixels of one value stand on one line along the path.
+--   1. In any v neighbouring rows exactly one pixel has the value n, whatever whole number n is. There are a and b with a u + b v = 1, so
+--      (n b, -n a) is such a pixel; the others stand at whole multiples of (u, v) from it, so one in each v neighbouring rows.
+--   2. In a row far enough inside, the ends of the stroke play no part: a pixel is black exactly when its centre lies in the strip between the two
+--      lines along the path that touch the pen, the right line included and the left one not.
+--   3. With c the greatest v x - u y over the pen's corners, the strip is -8 c < v (16 i - Ax) - u (16 j - Ay) <= 8 c: the value, taken 16 times, lies
+--      between two numbers that are 16 c apart, of which one counts. This is so for exactly c neighbouring values, wherever A stands.
+-- So v neighbouring rows hold exactly c black pixels, neither more nor fewer at any place along the stroke: one for each of those c values.
+-- A level path is simpler. In a column far enough inside, a pixel is black exactly when its centre lies in the band -8 Dy <= 16 j - Ay < 8 Dy, the lower
+-- line included and the upper one not: this is so for exactly Dy neighbouring j, wherever A stands.
+-- The steps are in proofs/: 1 and 3 and the band's rows in Window, 2 in Rising (with NearEdge, on the edges near the ends), the level part in Level,
+-- and both together in WeightTheorems.
 use mathlib.Core.Path.{_≡_}
 use mathlib.Core.List.{List, [], _∷_}
-use Prim.Native.Nat.{ℕ, _≤_, _<_}
+use Prim.Native.Nat.{ℕ, _≤_}
 use lib.IntN.{ℤ, pos, negℤ, _+ℤ_, _-ℤ_, _*ℤ_}
 use Rattle.integers.specs.Orders.{_≼_, _≺_}
 use Rattle.integers.specs.Compare.{minZ, maxZ}
 use Rattle.integers.specs.Coprime.{Coprime}
 use Rattle.integers.specs.Count.{Number}
 use Rattle.plane.specs.Point.{Pt}
-use Rattle.plane.specs.Polygon.{PenLaws}
 use Rattle.stroke.specs.Sweep.{Seg, centre}
 use Rattle.stroke.specs.Sides.{furthest}
 use Rattle.stroke.specs.Black.{BlackPath}

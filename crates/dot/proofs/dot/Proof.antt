@@ -3,13 +3,22 @@ use mathlib.Core.Path.{ap, _∙_}
 use mathlib.Core.List.{List, [], _∷_}
 use Prim.Native.Nat.{ℕ}
 use denote.Ref.{now}
+use Rattle.limits.specs.declared.Verdict.the-variants.{Passed}
+use Rattle.checks.specs.Answer.{given}
 use Rattle.aperture.specs.declared.Table.{Table}
-use Rattle.drawing.specs.Film.{filePut, filmPut}
+use Rattle.drawing.specs.Film.{fileOffer, filmPut}
 use Rattle.drawing.specs.Cases.{dotPath}
 use Rattle.drawing.proofs.Dot.{dot-film}
 use borrow.Author.Needs.{needs}
 use Rattle.dot.proofs.dot.Statement.{statement}
 use Rattle.dot.proofs.dot.Tie as tie
+
+-- where the table has been made, and the way back to it from where the film has been put
+abbrev start : tie.After-table → tie.Start
+start c = c .before .before .before
+
+abbrev tabled : tie.After-put-film → tie.After-table
+tabled c = let lent = c .before .before in lent .before .before .before
 
 slice-aggregate-table : tie.Need-slice-aggregate-table
 slice-aggregate-table c = search needs
@@ -34,10 +43,12 @@ same-length c = search needs
 
 returns : tie.Need-returns
 returns c =
-    let b = now (c .before .before .before .before .before .before .before .before .before .before .args .out) in
-    c .before .before .put-film .ensures
-    ∙ ap (λ (t : Table). filmPut (record { table = t; apertures = 10 ∷ []; starts = 0 ∷ 2 ∷ []; entries = dotPath }) 5 3 b) (c .before .before .before .before .before .before .before .table .ensures)
-    ∙ ap (λ (f : List ℕ). filePut f b) dot-film
+    let put = c .before .before in
+    let made = tabled put in
+    let b = now (start made .args .out) in
+    put .put-film .ensures
+    ∙ ap (λ (t : Table). filmPut (record { table = t; apertures = 10 ∷ []; starts = 0 ∷ 2 ∷ []; entries = dotPath }) 5 3 b) (made .table .ensures)
+    ∙ ap (λ (f : List ℕ). given Passed (fileOffer f b)) dot-film
 
 pub dot-spec : {M : Type 1} → statement M
 dot-spec =

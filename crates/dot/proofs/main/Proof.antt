@@ -1,8 +1,9 @@
 -- The file fills the ten bytes.
+use Prim.Native.Nat.{ℕ}
 use native.Mathlib.Omega.{arith}
 use mathlib.Core.Path.{_≡_, sym, ap}
 use lib.Seq.{length-take-le}
-use Rattle.drawing.specs.Film.{Result}
+use Rattle.checks.specs.Answer.{Result}
 use borrow.Author.Needs.{needs}
 use Rattle.dot.proofs.main.Statement.{statement}
 use Rattle.dot.proofs.main.Tie as tie
@@ -14,7 +15,7 @@ dot-requires : tie.Need-dot-requires
 dot-requires c κs = search needs
 
 array-share-prefix-out : tie.Need-array-share-prefix-out
-array-share-prefix-out c = let e : c .before .dot .result .count ≡ 10 = ap (λ (r : Result). r .written .count) (c .before .dot .ensures) in omega (arith, e)
+array-share-prefix-out c = let e : c .before .dot .result .count ≡ 10 = ap (λ (r : Result ℕ). r .answer .count) (c .before .dot .ensures) in omega (arith, e)
 
 slice-aggregate-write-all : tie.Need-slice-aggregate-write-all
 slice-aggregate-write-all c = let h = array-share-prefix-out (c .before) in sym (length-take-le _ _ h)

@@ -1,101 +1,142 @@
 -- Both refusals come before anything is written.
 use Prim.Native.Nat.{ℕ, _≤_}
-use native.Mathlib.Omega.{arith}
 use mathlib.Core.Path.{_≡_, sym, ap, _∙_}
-use mathlib.Core.Bool.{true}
-use lib.ListN.{replicate, length-replicate}
+use mathlib.Core.List.{List, _++_}
+use lib.ListN.{length, drop}
 use lib.Seq.{length-take-le}
 use denote.Ref.{now}
-use Rattle.integers.proofs.Tests.{and-both}
-use Rattle.pbm.specs.Pbm.{isSize}
-use Rattle.drawing.specs.Film.{Drawing, isRaster}
-use Rattle.drawing.proofs.Put.{filmLength, is-none, is-some, size-most, film-least, zeros, no-raster, no-room, is-put}
 use borrow.Author.Needs.{needs}
+use Rattle.checks.specs.Checks.{roomVerdict}
+use Rattle.checks.specs.Answer.{Offer, done}
+use Rattle.checks.proofs.Verdicts.{room-passed}
+use Rattle.checks.proofs.Given.{refused-here, passed-here, no-room, room-left}
+use Rattle.drawing.specs.Film.{Drawing, film, fileOffer, Raster}
+use Rattle.drawing.proofs.Put.{film-long, raster-passed}
 use Rattle.drawing.proofs.put_film.Statement.{statement}
 use Rattle.drawing.proofs.put_film.Tie as tie
+
+-- ---- the places
+-- where the raster has been checked: the drawing that the arguments are, and what the call offers
+abbrev start : tie.After-raster-check → tie.Start
+start c = c .before .before .before .before
 
 abbrev drawing : tie.Start → Drawing
 drawing s = record { table = s .args .table; apertures = now (s .args .apertures); starts = now (s .args .starts); entries = now (s .args .entries) }
 
-raster : (c : tie.Else1) → (isRaster (c .before .before .before .before .before .args .columns) (c .before .before .before .before .before .args .rows) ≡ true) × (c .before .film-length .result ≡ filmLength (c .before .before .before .before .before .args .columns) (c .before .before .before .before .before .args .rows))
-raster c = is-some _ _ _ (c .before .film-length .ensures) (c .if1 .left)
+abbrev whole : tie.Start → List ℕ
+whole s = film (drawing s) (s .args .columns) (s .args .rows)
 
-sizes : (c : tie.Else1) → (isSize (c .before .before .before .before .before .args .columns) ≡ true) × (isSize (c .before .before .before .before .before .args .rows) ≡ true)
-sizes c = and-both _ _ (raster c .0)
+abbrev offer : tie.Start → Offer ℕ
+offer s = fileOffer (whole s) (now (s .args .out))
 
-narrow : (c : tie.After-row-length) → c .row-length .result ≤ 2048
-narrow c = omega (arith, c .row-length .ensures, size-most (c .before .before .before .before .before .before .before .args .columns) (sizes (c .before .before) .0))
+-- where that check is passed: the sizes are a raster's
+raster : (c : tie.After-enum-told) → let a = start (c .before .before) .args in Raster (a .columns) (a .rows)
+raster c = let k = c .before .before in let a = start k .args in raster-passed (a .columns) (a .rows) (k .raster-check .ensures) (c .enum-told .given .1)
 
-film-length-requires : tie.Need-film-length-requires
-film-length-requires c κs = search needs
+-- where the length is known, it is the film's
+abbrev begin : tie.After-length-of → tie.Start
+begin c = let passed = c .before in start (passed .before .before)
 
-refused-requires : tie.Need-refused-requires
-refused-requires c κs = search needs
+long : (c : tie.After-length-of) → let s = begin c in c .length-of .result ≡ length (whole s)
+long c = let s = begin c in c .length-of .ensures ∙ sym (film-long (drawing s) (s .args .columns) (s .args .rows))
+
+-- where the room has been checked
+verdict : (c : tie.After-room-check) → let s = begin (c .before) in c .room-check .result ≡ roomVerdict (length (whole s)) (length (now (s .args .out)))
+verdict c = let s = begin (c .before) in c .room-check .ensures ∙ ap (λ (n : ℕ). roomVerdict n (length (now (s .args .out)))) (long (c .before))
+
+-- where that check is passed there is room
+room : (c : tie.After-enum-told3) → let k = c .before .before .before in k .length-of .result ≤ length (now (begin k .args .out))
+room c =
+    let k = c .before .before in
+    room-passed (k .before .length-of .result) (length (now (begin (k .before) .args .out))) (k .room-check .ensures) (c .enum-told3 .given .1)
+
+raster-check-requires : tie.Need-raster-check-requires
+raster-check-requires c κs = search needs
+
+enum-told : tie.Need-enum-told
+enum-told c = search needs
+
+enum-told-2 : tie.Need-enum-told-2
+enum-told-2 c = search needs
+
+report-requires : tie.Need-report-requires
+report-requires c κs = search needs
 
 returns : tie.Need-returns
-returns c =
-    let s = c .before .before .before .before .before .before in
-    let a = s .args in
-    no-raster (drawing s) (a .columns) (a .rows) (now (a .out)) (is-none _ _ _ (film-least (a .columns) (a .rows)) (c .before .before .film-length .ensures) (c .before .if1 .taken)) (c .refused .ensures)
+returns c = let k = c .before .before .before in refused-here (offer (start k)) (k .raster-check .ensures) (c .before .enum-told2 .given .1) (c .report .ensures)
 
-refused-requires-2 : tie.Need-refused-requires-2
-refused-requires-2 c κs = search needs
+length-of-requires : tie.Need-length-of-requires
+length-of-requires c κs = raster c
+
+room-check-requires : tie.Need-room-check-requires
+room-check-requires c κs = search needs
+
+enum-told-3 : tie.Need-enum-told-3
+enum-told-3 c = search needs
+
+enum-told-4 : tie.Need-enum-told-4
+enum-told-4 c = search needs
+
+report-requires-2 : tie.Need-report-requires-2
+report-requires-2 c κs = search needs
 
 returns-2 : tie.Need-returns-2
 returns-2 c =
-    let s = c .before .before .before .before .before .before .before in
-    let a = s .args in
-    let r = raster (c .before .before) in
-    no-room (drawing s) (a .columns) (a .rows) (now (a .out)) (r .0) (omega (arith, r .1, c .before .if2 .taken)) (c .refused2 .ensures)
-
-row-length-requires : tie.Need-row-length-requires
-row-length-requires c κs = sizes (c .before) .0
-
-array-borrow-prefix-part : tie.Need-array-borrow-prefix-part
-array-borrow-prefix-part c = let h = narrow c in search needs
-
-slice-aggregate-put-file : tie.Need-slice-aggregate-put-file
-slice-aggregate-put-file c = sym (length-take-le (c .before .row-length .result) (replicate 2048 0) (omega (arith, narrow (c .before), length-replicate {A = ℕ} 2048 0)))
+    let k = c .before .before .before in
+    let passed = k .before .before in
+    let checked = passed .before .before in
+    let o = offer (start checked) in
+    passed-here o (checked .raster-check .ensures) (passed .enum-told .given .1) (no-room o (verdict k) (c .before .enum-told4 .given .1) (c .report2 .ensures))
 
 slice-relend-prefix-put-file : tie.Need-slice-relend-prefix-put-file
-slice-relend-prefix-put-file c = search needs
+slice-relend-prefix-put-file c = let h = room c in search needs
 
-slice-aggregate-put-file-2 : tie.Need-slice-aggregate-put-file-2
-slice-aggregate-put-file-2 c = sym (length-take-le (c .before .before .before .before .before .film-length .result) (now (c .before .before .before .before .before .before .before .before .before .args .out)) (c .before .before .before .if2 .left))
+slice-aggregate-put-file : tie.Need-slice-aggregate-put-file
+slice-aggregate-put-file c =
+    let k = c .before .before .before .before in
+    sym (length-take-le (k .length-of .result) (now (begin k .args .out)) (room (c .before)))
 
 put-file-requires : tie.Need-put-file-requires
 put-file-requires c κs =
-    let w = c .before .before in
-    let e = w .before .before in
-    let z = sizes e in
-    (z .0, (z .1, (zeros (w .row-length .result) 2048 (narrow w) ∙ ap (λ (n : ℕ). replicate n 0) (w .row-length .ensures), length-take-le (e .before .film-length .result) (now (e .before .before .before .before .before .args .out)) (w .before .if2 .left) ∙ raster e .1)))
+    let k = c .before .before .before .before in
+    (raster (k .before), length-take-le (k .length-of .result) (now (begin k .args .out)) (room (c .before)) ∙ k .length-of .ensures)
+
+done-requires : tie.Need-done-requires
+done-requires c κs = search needs
 
 same-length : tie.Need-same-length
 same-length c = search needs
 
 returns-3 : tie.Need-returns-3
 returns-3 c =
-    let p = c .before .before .before in
-    let k = p .before .before .before .before in
-    let e = k .before in
-    let s = e .before .before .before .before .before in
-    let a = s .args in
-    is-put (drawing s) (a .columns) (a .rows) (now (a .out)) (raster e .0) (raster e .1) (k .if2 .left) (p .put-file .ensures .1)
+    let put = c .before .before .before in
+    let fits = put .before .before in
+    let k = fits .before .before .before in
+    let passed = k .before in
+    let checked = passed .before .before in
+    let s = start checked in
+    passed-here (offer s) (checked .raster-check .ensures) (passed .enum-told .given .1)
+    (room-left (offer s) (room-passed _ _ (verdict (fits .before .before)) (fits .enum-told3 .given .1)) (c .done .ensures ∙ ap done (long k))
+    (ap (λ (l : List ℕ). l ++ drop (k .length-of .result) (now (s .args .out))) (put .put-file .ensures) ∙ ap (λ (n : ℕ). whole s ++ drop n (now (s .args .out))) (long k)))
 
 pub put-film-spec : {M : Type 1} → statement M
 put-film-spec =
     tie.close
     (tie.spec
-    film-length-requires
-    refused-requires
+    raster-check-requires
+    enum-told
+    enum-told-2
+    report-requires
     returns
-    refused-requires-2
+    length-of-requires
+    room-check-requires
+    enum-told-3
+    enum-told-4
+    report-requires-2
     returns-2
-    row-length-requires
-    array-borrow-prefix-part
-    slice-aggregate-put-file
     slice-relend-prefix-put-file
-    slice-aggregate-put-file-2
+    slice-aggregate-put-file
     put-file-requires
+    done-requires
     same-length
     returns-3)

@@ -3,8 +3,10 @@ use Prim.Native.Nat.{ℕ, _+_, _*_, _-_, _/_, _≤_, _<_}
 use native.Mathlib.Numerals.{add-one}
 use native.Mathlib.Omega.{arith}
 use mathlib.Core.Path.{_≡_, refl, sym, ap, _∙_}
+use mathlib.Core.List.{List}
 use lib.ListN.{length, getD}
 use denote.Ref.{now}
+use Rattle.limits.specs.Sizes.{apertureMin}
 use Rattle.drawing.specs.Film.{settingAt, tableUpTo}
 use Rattle.aperture.specs.declared.Table.{Table}
 use Rattle.aperture.specs.declared.Changed.{Changed}
@@ -19,6 +21,13 @@ Inv-loop settings n t₀ i₀ t i = (i ≤ n) × (t ≡ tableUpTo settings i)
 
 abbrev μ-loop : tie.MeasureT-loop
 μ-loop settings n t₀ i₀ t i = n - i
+
+-- in a turn: the list of settings
+abbrev settings : tie.At-loop Inv-loop μ-loop → List ℕ
+settings c = now (c .before .before .before .args .settings)
+
+abbrev turning : tie.After-define Inv-loop μ-loop → tie.At-loop Inv-loop μ-loop
+turning c = let known = c .before .before .before in known .before .before
 
 none-requires : tie.Need-none-requires Inv-loop μ-loop
 none-requires c κs = search needs
@@ -67,14 +76,16 @@ loop-less c = search needs
 
 loop-again : tie.Need-loop-again Inv-loop μ-loop
 loop-again c =
-    let l = c .before .before .before .before .before .before .loop in
-    let s = now (c .before .before .before .before .before .before .before .before .before .args .settings) in
-    (search needs, ap (λ (r : Changed). r .table) (c .before .define .ensures) ∙ ap (λ (t : Table). defined t (10 + l .i) (settingAt s (l .i)) .table) (l .inv .1) ∙ one-more s (l .i))
+    let defined-here = c .before in
+    let k = turning defined-here in
+    let l = k .loop in
+    let s = settings k in
+    (search needs, ap (λ (r : Changed). r .table) (defined-here .define .ensures) ∙ ap (λ (t : Table). defined t (apertureMin + l .i) (settingAt s (l .i)) .table) (l .inv .1) ∙ one-more s (l .i))
 
 returns : tie.Need-returns Inv-loop μ-loop
 returns c =
     let l = c .before .loop in
-    let s = now (c .before .before .before .before .args .settings) in
+    let s = settings (c .before) in
     let e : l .i ≡ length s / 3 = omega arith in
     l .inv .1 ∙ ap (tableUpTo s) e
 

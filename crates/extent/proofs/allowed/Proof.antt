@@ -5,7 +5,7 @@ use lib.IntN.{ℤ}
 use mir.Syntax.{w32}
 use Rattle.integers.proofs.Tests.{true-and, false-and}
 use Rattle.integers.proofs.Machine.{par}
-use Rattle.checks.specs.Checks.{inRange}
+use Rattle.limits.specs.Sizes.{inRange}
 use borrow.Author.Needs.{needs}
 use Rattle.extent.proofs.allowed.Statement.{statement}
 use Rattle.extent.proofs.allowed.Tie as tie

@@ -3,7 +3,7 @@ use mathlib.Core.Path.{sym, ap, _∙_}
 use mir.Syntax.{w32}
 use Rattle.integers.proofs.Tests.{true-and, false-and}
 use Rattle.integers.proofs.Machine.{par}
-use Rattle.checks.specs.Checks.{inRange}
+use Rattle.limits.specs.Sizes.{inRange}
 use borrow.Author.Needs.{needs}
 use Rattle.extent.proofs.both.Statement.{statement}
 use Rattle.extent.proofs.both.Tie as tie

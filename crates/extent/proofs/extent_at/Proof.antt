@@ -2,9 +2,8 @@
 use mathlib.Core.Path.{_≡_, sym, ap, ap₂, _∙_}
 use mathlib.Core.Bool.{true}
 use mathlib.Core.List.{List}
-use mathlib.Core.Logic.{inl, inr, ⊎-elim}
-use Prim.Native.Nat.{_≤_}
-use native.Mathlib.Nat.{le-trans}
+use Prim.Native.Nat.{min}
+use native.Mathlib.Omega.{arith}
 use lib.ListN.{length}
 use lib.IntN.{pos}
 use borrow.Author.Tests.{not-true, not-false}
@@ -17,9 +16,9 @@ use Rattle.stroke.specs.Sweep.{Seg}
 use Rattle.stroke.specs.Sides.{sides}
 use Rattle.stroke.specs.Extent.{Left, narrowed, spanOf, reached}
 use Rattle.extent.specs.Answer.{seg, allowed, answered}
-use Rattle.extent.specs.Held.{start, ends, Near}
-use Rattle.extent.proofs.Read.{fewest}
-use Rattle.extent.proofs.Answered.{row-small, near, none-outside, none-beyond, some-within}
+use Rattle.extent.specs.Held.{start, ends, Near, Held}
+use Rattle.extent.proofs.Read.{corners-all}
+use Rattle.extent.proofs.Answered.{allowed-near, none-outside, none-beyond, some-within}
 use borrow.Author.Needs.{needs}
 use Rattle.extent.proofs.extent_at.Statement.{statement}
 use Rattle.extent.proofs.extent_at.Tie as tie
@@ -32,41 +31,49 @@ ends-read s =
     let both : Pt → Pt → Seg = λ A B. record { from = A; to = B } in
     ap₂ both (ap₂ pt (par {w = w32} (f .ax) .reads) (par {w = w32} (f .ay) .reads)) (ap₂ pt (par {w = w32} (f .bx) .reads) (par {w = w32} (f .by) .reads))
 
+-- the first test is that of the definition
 told : (c : tie.After-allowed) → let a = c .before .args in c .allowed .result ≡ allowed (a .ax) (a .ay) (a .bx) (a .by) (a .row)
 told c = c .allowed .ensures ∙ ap (λ (g : Seg). allowed (g .from .x) (g .from .y) (g .to .x) (g .to .y) (c .before .args .row)) (ends-read (c .before))
 
-segment : (c : tie.After-wide) → let a = c .before .before .before .before .before .args in ends (c .wide .result) ≡ seg (a .ax) (a .ay) (a .bx) (a .by)
-segment c = c .wide .ensures ∙ ends-read (c .before .before .before .before .before)
+-- ---- the places: the start, from where the first test has passed; that test, from where the ends have been made wide; and the ends
+abbrev start-of : tie.Else1 → tie.Start
+start-of c = c .before .before
+
+abbrev tested : tie.After-wide → tie.Else1
+tested c = c .before .before .before
+
+abbrev ends-of : tie.Else2 → tie.After-wide
+ends-of c = c .before .before
 
 -- past the first test the numbers are small
-yes : (c : tie.Else1) → let a = c .before .before .args in allowed (a .ax) (a .ay) (a .bx) (a .by) (a .row) ≡ true
+yes : (c : tie.Else1) → let a = start-of c .args in allowed (a .ax) (a .ay) (a .bx) (a .by) (a .row) ≡ true
 yes c = sym (told (c .before)) ∙ not-false _ (c .if1 .left)
 
-small : (c : tie.Else1) → c .before .before .args .row ≤ 16383
-small c = let a = c .before .before .args in row-small (a .ax) (a .ay) (a .bx) (a .by) (a .row) (yes c)
+segment : (c : tie.After-wide) → let a = start-of (tested c) .args in ends (c .wide .result) ≡ seg (a .ax) (a .ay) (a .bx) (a .by)
+segment c = c .wide .ensures ∙ ends-read (start-of (tested c))
 
-near-ends : (c : tie.After-wide) → Near (c .wide .result)
-near-ends c = let a = c .before .before .before .before .before .args in near (a .ax) (a .ay) (a .bx) (a .by) (a .row) (yes (c .before .before .before)) (c .wide .result) (segment c)
+near-ends : (c : tie.After-wide) → Near (c .wide .result) (start-of (tested c) .args .row)
+near-ends c = let a = start-of (tested c) .args in allowed-near (a .ax) (a .ay) (a .bx) (a .by) (a .row) (yes (tested c)) (c .wide .result) (segment c)
 
 -- the corners are in the arrays, and are all
-in-arrays : (c : tie.After-least2) → let a = c .before .before .before .before .args in (c .least2 .result ≤ length (now (a .xs))) × (c .least2 .result ≤ length (now (a .ys)))
-in-arrays c =
-    let h = c .least2 .ensures in
-    let k = c .before .least .ensures in
-    (le-trans (h .1) (k .0), le-trans (h .1) (k .1))
+fewest : (c : tie.After-wide) → let a = start-of (tested c) .args in
+    c .before .min-usize2 .result ≡ min (a .count) (min (length (now (a .xs))) (length (now (a .ys))))
+fewest c = c .before .min-usize2 .ensures ∙ ap (min _) (c .before .before .min-usize .ensures)
 
-all-corners : (c : tie.After-least2) → let a = c .before .before .before .before .args in corners (a .count) (now (a .xs)) (now (a .ys)) ≡ corners (c .least2 .result) (now (a .xs)) (now (a .ys))
-all-corners c =
-    let h = c .least2 .ensures in
-    let k = c .before .least .ensures in
-    fewest (c .least2 .result) _ _ _ (h .0) (⊎-elim (λ l. inl l) (λ l. inr (⊎-elim (λ m. inl (le-trans m l)) (λ m. inr (le-trans m l)) (k .2))) (h .2))
+held : (c : tie.After-wide) → let a = start-of (tested c) .args in Held (c .before .min-usize2 .result) (now (a .xs)) (now (a .ys))
+held c = record { in-xs = omega (arith, fewest c); in-ys = omega (arith, fewest c) }
 
-reach : (c : tie.After-reached) → let a = c .before .before .before .before .before .before .args in
+all-corners : (c : tie.After-wide) → let a = start-of (tested c) .args in
+    corners (a .count) (now (a .xs)) (now (a .ys)) ≡ corners (c .before .min-usize2 .result) (now (a .xs)) (now (a .ys))
+all-corners c = corners-all _ _ _ _ (fewest c)
+
+-- so the second test is that of the definition
+reach : (c : tie.After-reached) → let a = start-of (tested (c .before)) .args in
     c .reached .result ≡ reached (corners (a .count) (now (a .xs)) (now (a .ys))) (seg (a .ax) (a .ay) (a .bx) (a .by)) (pos (a .row))
 reach c =
-    let a = c .before .before .before .before .before .before .args in
-    c .reached .ensures (now (a .xs)) (in-arrays (c .before .before) .0)
-    ∙ ap₂ (λ (cs : List Pt) (g : Seg). reached cs g (pos (a .row))) (sym (all-corners (c .before .before))) (segment (c .before))
+    let d = c .before in
+    let a = start-of (tested d) .args in
+    c .reached .ensures (now (a .xs)) (held d .in-xs) ∙ ap₂ (λ (cs : List Pt) (g : Seg). reached cs g (pos (a .row))) (sym (all-corners d)) (segment d)
 
 allowed-requires : tie.Need-allowed-requires
 allowed-requires c κs = search needs
@@ -74,36 +81,38 @@ allowed-requires c κs = search needs
 returns : tie.Need-returns
 returns c = let a = c .before .before .args in none-outside (corners (a .count) (now (a .xs)) (now (a .ys))) _ _ _ _ _ (sym (told (c .before)) ∙ not-true _ (c .if1 .taken))
 
-least-requires : tie.Need-least-requires
-least-requires c κs = search needs
+min-usize-requires : tie.Need-min-usize-requires
+min-usize-requires c κs = search needs
 
-least-requires-2 : tie.Need-least-requires-2
-least-requires-2 c κs = search needs
+min-usize-requires-2 : tie.Need-min-usize-requires-2
+min-usize-requires-2 c κs = search needs
 
 wide-requires : tie.Need-wide-requires
 wide-requires c κs = search needs
 
 reached-requires : tie.Need-reached-requires
-reached-requires c κs = (in-arrays (c .before) .1, (near-ends c, small (c .before .before .before)))
+reached-requires c κs = (held c .in-ys, near-ends c)
 
 returns-2 : tie.Need-returns-2
 returns-2 c =
-    let a = c .before .before .before .before .before .before .before .args in
-    none-beyond (corners (a .count) (now (a .xs)) (now (a .ys))) _ _ _ _ _ (yes (c .before .before .before .before .before)) (sym (reach (c .before)) ∙ not-true _ (c .if2 .taken))
+    let t = tested (c .before .before) in
+    let a = start-of t .args in
+    none-beyond (corners (a .count) (now (a .xs)) (now (a .ys))) _ _ _ _ _ (yes t) (sym (reach (c .before)) ∙ not-true _ (c .if2 .taken))
 
 narrowed-requires : tie.Need-narrowed-requires
-narrowed-requires c κs = let h = in-arrays (c .before .before .before) in (record { in-xs = h .0; in-ys = h .1 }, (near-ends (c .before .before), small (c .before .before .before .before .before)))
+narrowed-requires c κs = (held (ends-of c), near-ends (ends-of c))
 
 columns-requires : tie.Need-columns-requires
 columns-requires c κs = search needs
 
 returns-3 : tie.Need-returns-3
 returns-3 c =
-    let a = c .before .before .before .before .before .before .before .before .before .args in
-    let j = pos (a .row) in
-    let e = c .before .narrowed .ensures .0
-    ∙ ap₂ (λ (cs : List Pt) (g : Seg). narrowed j (sides cs g) start) (sym (all-corners (c .before .before .before .before .before))) (segment (c .before .before .before .before)) in
-    c .columns .ensures ∙ ap (λ (l : Left). answered (spanOf l)) e ∙ some-within (corners (a .count) (now (a .xs)) (now (a .ys))) _ _ _ _ _ (yes (c .before .before .before .before .before .before .before)) (sym (reach (c .before .before .before)) ∙ not-false _ (c .before .before .if2 .left))
+    let at-else = c .before .before in
+    let d = ends-of at-else in
+    let a = start-of (tested d) .args in
+    let e = c .before .narrowed .ensures .0 ∙ ap₂ (λ (cs : List Pt) (g : Seg). narrowed (pos (a .row)) (sides cs g) start) (sym (all-corners d)) (segment d) in
+    c .columns .ensures ∙ ap (λ (l : Left). answered (spanOf l)) e
+    ∙ some-within (corners (a .count) (now (a .xs)) (now (a .ys))) _ _ _ _ _ (yes (tested d)) (sym (reach (at-else .before)) ∙ not-false _ (at-else .if2 .left))
 
 pub extent-at-spec : {M : Type 1} → statement M
 extent-at-spec =
@@ -111,8 +120,8 @@ extent-at-spec =
     (tie.spec
     allowed-requires
     returns
-    least-requires
-    least-requires-2
+    min-usize-requires
+    min-usize-requires-2
     wide-requires
     reached-requires
     returns-2

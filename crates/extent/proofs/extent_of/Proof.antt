@@ -9,12 +9,16 @@ use borrow.Author.Needs.{needs}
 use Rattle.extent.proofs.extent_of.Statement.{statement}
 use Rattle.extent.proofs.extent_of.Tie as tie
 
+-- where the pen has been taken: its two arrays and its number of corners are lent after it
+abbrev taken : tie.After-extent-at-arg4 → tie.After-pen
+taken c = c .before .before .before .before
+
 extent-at-requires : tie.Need-extent-at-requires
 extent-at-requires c κs = search needs
 
 returns : tie.Need-returns
 returns c =
-    let s = c .before .before .before .before .before .before in
+    let s = taken (c .before) .before in
     let f = s .fits in
     c .extent-at .ensures
     ∙ ap₂ (λ (A B : Pt). extentOf (penCorners (s .args .t1)) (A .x) (A .y) (B .x) (B .y) (s .args .row))

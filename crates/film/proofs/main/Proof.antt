@@ -4,11 +4,18 @@ use native.Mathlib.Omega.{arith}
 use mathlib.Core.Path.{sym, ap, subst}
 use lib.ListN.{length}
 use lib.Seq.{length-take-le}
-use Rattle.drawing.specs.Film.{Result}
+use Rattle.checks.specs.Answer.{Result}
 use Rattle.drawing.proofs.Put.{count-most}
 use borrow.Author.Needs.{needs}
 use Rattle.film.proofs.main.Statement.{statement}
 use Rattle.film.proofs.main.Tie as tie
+
+-- where the film has been put: the buffer that it was put into, and how many bytes it has
+abbrev space : tie.After-put-film → tie.After-large-buffer
+space c = let lent = c .before .before in lent .before .before .before
+
+counted : (c : tie.After-put-film) → c .put-film .result .count ≤ length (space c .large-buffer .result)
+counted c = subst (λ (n : ℕ). n ≤ length (space c .large-buffer .result)) (sym (ap (λ (r : Result ℕ). r .answer .count) (c .put-film .ensures))) (search count-most)
 
 slice-aggregate-table : tie.Need-slice-aggregate-table
 slice-aggregate-table c = search needs
@@ -35,10 +42,7 @@ put-film-requires : tie.Need-put-film-requires
 put-film-requires c κs = search needs
 
 array-share-prefix-space : tie.Need-array-share-prefix-space
-array-share-prefix-space c =
-    let b = c .before .before .before .before .before .before .large-buffer in
-    let h : c .before .put-film .result .count ≤ length (b .result) = subst (λ (n : ℕ). n ≤ length (b .result)) (sym (ap (λ (r : Result). r .written .count) (c .before .put-film .ensures))) (search count-most) in
-    omega (arith, h, b .ensures)
+array-share-prefix-space c = omega (arith, counted (c .before), space (c .before) .large-buffer .ensures)
 
 slice-aggregate-write-all : tie.Need-slice-aggregate-write-all
 slice-aggregate-write-all c = let h = array-share-prefix-space (c .before) in sym (length-take-le _ _ h)

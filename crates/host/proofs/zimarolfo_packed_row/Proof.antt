@@ -1,18 +1,51 @@
 -- The setting is refused, or the row is that of its pen.
-use Rattle.host.proofs.Settings.{built-refused, built-taken, packed-refused, packed-goes-on}
-use mathlib.Core.Path.{_∙_}
+use mathlib.Core.Path.{_≡_, sym, _∙_}
+use native.Mathlib.Omega.{arith}
 use borrow.Author.Needs.{needs}
+use Rattle.limits.specs.Refusal as refusal
+use Rattle.setting.specs.declared.Setting.{Setting}
+use Rattle.setting.specs.declared.Checked.the-variants.{Taken}
+use Rattle.setting.specs.Answer.{checked}
+use Rattle.host.proofs.Outcomes.{refused-fit}
+use Rattle.host.proofs.Settings.{built-taken, packed-refused, packed-goes-on}
 use Rattle.host.proofs.zimarolfo_packed_row.Statement.{statement}
 use Rattle.host.proofs.zimarolfo_packed_row.Tie as tie
 
-build-requires : tie.Need-build-requires
-build-requires c κs = search needs
+-- where the setting has been checked
+abbrev start : tie.After-check → tie.Start
+start c = c .before .before .before
+
+abbrev setting : tie.Start → Setting
+setting s = record { w = s .args .w; p = s .args .p; q = s .args .q }
+
+-- where it is taken
+abbrev taken : tie.After-s → Setting
+taken c = c .s .given .0 .0
+
+is-taken : (c : tie.After-s) → checked (setting (start (c .before .before))) ≡ Taken (taken c)
+is-taken c = sym (c .before .before .check .ensures) ∙ c .s .given .1
+
+check-requires : tie.Need-check-requires
+check-requires c κs = search needs
+
+enum-known-s : tie.Need-enum-known-s
+enum-known-s c = search needs
+
+enum-told : tie.Need-enum-told
+enum-told c = search needs
+
+refused-requires : tie.Need-refused-requires
+refused-requires c κs = refused-fit (refusal.number refusal.setting) (omega arith)
 
 returns : tie.Need-returns
 returns c =
-    let a = c .before .before .before .before .before .args in
-    let b = c .before .before .build in
-    packed-refused (record { w = a .w; p = a .p; q = a .q }) (a .path .now) (a .columns) (a .rows) (a .row) (a .bytes .now) (built-refused (record { w = a .w; p = a .p; q = a .q }) (b .result) (b .ensures) (c .if1 .taken))
+    let k = c .before .before .before in
+    let s = start k in
+    let a = s .args in
+    packed-refused (setting s) (a .path .now) (a .columns) (a .rows) (a .row) (a .bytes .now) (sym (k .check .ensures) ∙ c .before .enum-told .given .1) (c .refused .ensures)
+
+build-requires : tie.Need-build-requires
+build-requires c κs = search needs
 
 of-bytes-requires : tie.Need-of-bytes-requires
 of-bytes-requires c κs = search needs
@@ -22,12 +55,25 @@ same-length c = search needs
 
 returns-2 : tie.Need-returns-2
 returns-2 c =
-    let a = c .before .before .before .before .before .before .before .before .before .before .args in
-    let b = c .before .before .before .before .before .before .before .build in
-    let t = built-taken (record { w = a .w; p = a .p; q = a .q }) (b .result) (b .ensures) (c .before .before .before .before .before .if1 .left) in
-    c .before .before .of-bytes .ensures ∙ packed-goes-on (record { w = a .w; p = a .p; q = a .q }) (a .path .now) (a .columns) (a .rows) (a .row) (a .bytes .now) (b .result .pen) (t .0) (t .1)
+    let drawn = c .before .before in
+    let built = drawn .before .before .before in
+    let p = built .before .before in
+    let s = start (p .before .before) in
+    let a = s .args in
+    let is-its-pen = built-taken (setting s) (taken p) (built .build .result) (is-taken p) (built .build .ensures) in
+    drawn .of-bytes .ensures
+    ∙ packed-goes-on (setting s) (a .path .now) (a .columns) (a .rows) (a .row) (a .bytes .now) (taken p) (built .build .result .pen) (is-taken p) is-its-pen
 
 pub zimarolfo-packed-row-spec : {M : Type 1} → statement M
 zimarolfo-packed-row-spec =
     tie.close
-    (tie.spec build-requires returns of-bytes-requires same-length returns-2)
+    (tie.spec
+    check-requires
+    enum-known-s
+    enum-told
+    refused-requires
+    returns
+    build-requires
+    of-bytes-requires
+    same-length
+    returns-2)

@@ -1,14 +1,27 @@
--- The checks refuse, or the row is packed as their answer allows.
+-- The checks refuse, or the row is drawn as their answer allows.
 use mathlib.Core.Path.{sym, _∙_}
+use borrow.Author.Needs.{needs}
+use Rattle.limits.specs.Sizes.{Drawable}
 use Rattle.pen.specs.Answer.{penCorners}
 use Rattle.checks.proofs.Verdicts.{verdict-passed}
 use Rattle.packed.proofs.Calls.{packed-refused, packed-passed}
-use borrow.Author.Needs.{needs}
 use Rattle.packed.proofs.packed_for.Statement.{statement}
 use Rattle.packed.proofs.packed_for.Tie as tie
-use Rattle.checks.proofs.check.Reads as check-reads
-use Rattle.checks.proofs.report.Reads as report-reads
-use Rattle.packed.proofs.draw.draw_packed.Reads as draw-packed-reads
+
+-- where the checks have answered
+abbrev start : tie.After-check → tie.Start
+start c = c .before .before
+
+-- where they are passed the row can be drawn
+drawable : (c : tie.After-enum-told) → let a = start (c .before .before) .args in Drawable (a .path .now) (a .columns) (a .row)
+drawable c =
+    let k = c .before .before in
+    let a = start k .args in
+    verdict-passed (a .path .now) (a .columns) (a .rows) (a .row) (sym (k .check .ensures) ∙ c .enum-told .given .1)
+
+-- the parts of the pen are lent one after the other
+abbrev passed : tie.After-draw-packed-arg5 → tie.After-enum-told
+passed c = let lent = c .before .before .before in lent .before .before .before
 
 check-requires : tie.Need-check-requires
 check-requires c κs = search needs
@@ -23,18 +36,24 @@ report-requires : tie.Need-report-requires
 report-requires c κs = search needs
 
 returns : tie.Need-returns
-returns c = let a = c .before .before .before .before .before .args in packed-refused (penCorners (a .t1)) (a .path .now) (a .columns) (a .rows) (a .row) (a .bytes .now) (c .before .before .before .check .ensures) (c .before .enum-told2 .given .1) (c .report .ensures)
+returns c =
+    let k = c .before .before .before in
+    let a = start k .args in
+    packed-refused (penCorners (a .t1)) (a .path .now) (a .columns) (a .rows) (a .row) (a .bytes .now) (k .check .ensures) (c .before .enum-told2 .given .1) (c .report .ensures)
 
 draw-packed-requires : tie.Need-draw-packed-requires
-draw-packed-requires c κs = let a = c .before .before .before .before .before .before .before .before .before .before .args in let p = verdict-passed (a .path .now) (a .columns) (a .rows) (a .row) (sym (c .before .before .before .before .before .before .before .before .check .ensures) ∙ c .before .before .before .before .before .before .enum-told .given .1) in (p .0, (p .1, p .2))
+draw-packed-requires c κs = drawable (passed c)
 
 same-length : tie.Need-same-length
 same-length c = search needs
 
 returns-2 : tie.Need-returns-2
 returns-2 c =
-    let a = c .before .before .before .before .before .before .before .before .before .before .before .before .before .args in
-    c .before .before .draw-packed .ensures ∙ packed-passed (penCorners (a .t1)) (a .path .now) (a .columns) (a .rows) (a .row) (a .bytes .now) (sym (c .before .before .before .before .before .before .before .before .before .before .before .check .ensures) ∙ c .before .before .before .before .before .before .before .before .before .enum-told .given .1)
+    let drawn = c .before .before in
+    let p = passed (drawn .before) in
+    let k = p .before .before in
+    let a = start k .args in
+    packed-passed (penCorners (a .t1)) (a .path .now) (a .columns) (a .rows) (a .row) (a .bytes .now) (k .check .ensures) (p .enum-told .given .1) (drawn .draw-packed .ensures)
 
 pub packed-for-spec : {M : Type 1} → statement M
 packed-for-spec =

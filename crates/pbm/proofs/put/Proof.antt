@@ -5,7 +5,7 @@ use native.Mathlib.Omega.{arith}
 use mathlib.Core.Path.{_≡_, refl, sym, ap, _∙_}
 use mathlib.Core.List.{List}
 use lib.ListN.{length, getD, set, length-set}
-use lib.Seq.{paste, paste-zero, paste-suc, length-paste}
+use lib.Seq.{paste, paste-zero, paste-suc}
 use denote.Ref.{now}
 use borrow.Author.Needs.{needs}
 use Rattle.pbm.proofs.put.Statement.{statement}
@@ -41,7 +41,11 @@ loop-again c =
     let a = c .before .before .before .args in
     let i : a .at + l .i < length (now (a .out)) = omega arith in
     let j : l .i < length (now (a .src)) = omega arith in
-    (search needs, simp length-set (l .inv .1), ap (λ (o : List ℕ). set o (a .at + l .i) (getD (now (a .src)) (l .i) 0)) (l .inv .2) ∙ paste-suc _ _ _ _ 0 i j ∙ ap (paste (now (a .out)) (a .at) (now (a .src))) (sym (add-one (l .i))))
+    let stored =
+    ap (λ (o : List ℕ). set o (a .at + l .i) (getD (now (a .src)) (l .i) 0)) (l .inv .2)
+    ∙ paste-suc _ _ _ _ 0 i j
+    ∙ ap (paste (now (a .out)) (a .at) (now (a .src))) (sym (add-one (l .i))) in
+    (search needs, simp length-set (l .inv .1), stored)
 
 same-length : tie.Need-same-length Inv-loop μ-loop
 same-length c = search needs

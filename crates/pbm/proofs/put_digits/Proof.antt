@@ -1,9 +1,16 @@
 -- Five pieces, one behind the other.
-use Rattle.pbm.proofs.Pieces.{five}
+use Rattle.pbm.proofs.Pieces.{five-pieces}
 use denote.Ref.{now}
 use borrow.Author.Needs.{needs}
 use Rattle.pbm.proofs.put_digits.Statement.{statement}
 use Rattle.pbm.proofs.put_digits.Tie as tie
+
+-- where the first piece is put: the lengths of the digits are known, and the call
+abbrev known : tie.After-put → tie.After-shared-slice-known2
+known p = p .before .before .before
+
+abbrev start : tie.After-put → tie.Start
+start p = known p .before .before .before
 
 slice-aggregate-put : tie.Need-slice-aggregate-put
 slice-aggregate-put c = search needs
@@ -51,8 +58,13 @@ returns c =
     let p₃ = p₄ .before .before .before .before in
     let p₂ = p₃ .before .before .before .before .before in
     let p₁ = p₂ .before .before .before .before in
-    let a = p₁ .before .before .before .before .before .before .args in
-    five (now (a .wide)) (now (a .high)) (now (a .out)) (p₁ .put .ensures) (p₂ .put2 .ensures) (p₃ .put3 .ensures) (p₄ .put4 .ensures) (p₅ .put5 .ensures)
+    let a = start p₁ .args in
+    five-pieces (now (a .columns)) (now (a .rows)) (now (a .out))
+    (p₁ .put .ensures)
+    (p₂ .put2 .ensures)
+    (p₃ .put3 .ensures)
+    (p₄ .put4 .ensures)
+    (p₅ .put5 .ensures)
 
 pub put-digits-spec : {M : Type 1} → statement M
 put-digits-spec =

@@ -2,6 +2,7 @@
 use mathlib.Core.Path.{_≡_, sym, ap, subst, _∙_}
 use mathlib.Core.List.{List, []}
 use borrow.Author.Needs.{needs}
+use Rattle.limits.specs.Refusal.{number, setting}
 use Rattle.setting.specs.declared.Setting.{Setting}
 use Rattle.setting.specs.declared.Checked.the-variants as checked·
 use Rattle.setting.specs.Answer.{checked}
@@ -20,15 +21,10 @@ use Rattle.pen.proofs.Laid.{quarter-back, mirrorable}
 use Rattle.pen.proofs.Answers.{pen-built, none-built}
 use Rattle.pen.proofs.build.Statement.{statement}
 use Rattle.pen.proofs.build.Tie as tie
-use Rattle.pen.proofs.build.Reads as reads
-use Rattle.pen.proofs.build.Lts as lts
-use Rattle.pen.proofs.polygon.mirrored.Reads as mirrored-reads
-use Rattle.pen.proofs.polygon.none.Reads as none-reads
-use Rattle.quarter.proofs.build.Reads as build-reads
-use Rattle.setting.proofs.check.Reads as check-reads
 
-none-of : (σ : Setting) → checked σ ≡ checked·.Refused → {p : Pen} → p ≡ penOf [] → record { refusal = 1; pen = p } ≡ built σ
-none-of σ e h = ap (λ (q : Pen). record { refusal = 1; pen = q }) h ∙ sym (none-built σ (checked-refused σ e))
+-- the answers of the two cases
+none-of : (σ : Setting) → checked σ ≡ checked·.Refused → {p : Pen} → p ≡ penOf [] → record { refusal = number setting; pen = p } ≡ built σ
+none-of σ e h = ap (λ (q : Pen). record { refusal = number setting; pen = q }) h ∙ sym (none-built σ (checked-refused σ e))
 
 -- the quarter of a setting that the check took
 quarter-of : (σ s : Setting) → checked σ ≡ checked·.Taken s → cornered s ≡ quarterOf (quarter σ)
@@ -37,17 +33,24 @@ quarter-of σ s e = let k = checked-taken σ s e in ap cornered (sym (k .1)) ∙
 can-mirror : (σ s : Setting) → checked σ ≡ checked·.Taken s → {q : Quarter} → q ≡ cornered s → Mirrorable q
 can-mirror σ s e h = subst Mirrorable (sym (h ∙ quarter-of σ s e)) (mirrorable σ (taken-iff σ .0 (checked-taken σ s e .0)))
 
-some-of : (σ s : Setting) → checked σ ≡ checked·.Taken s → {q : Quarter} → q ≡ cornered s → {p : Pen} → p ≡ penOf (whole (cornersOf q)) → record { refusal = 0; pen = p } ≡ built σ
+some-of : (σ s : Setting) → checked σ ≡ checked·.Taken s → {q : Quarter} → q ≡ cornered s →
+    {p : Pen} → p ≡ penOf (whole (cornersOf q)) → record { refusal = 0; pen = p } ≡ built σ
 unfolding pen
 some-of σ s e k h =
     let corners = ap cornersOf (k ∙ quarter-of σ s e) ∙ quarter-back (quarter σ) in
-    ap (λ (p : Pen). record { refusal = 0; pen = p }) (h ∙ ap (λ (l : List Pt). penOf (whole l)) corners) ∙ sym (pen-built σ (checked-taken σ s e .0))
+    ap (λ (p : Pen). record { refusal = 0; pen = p }) (h ∙ ap (λ (l : List Pt). penOf (whole l)) corners)
+    ∙ sym (pen-built σ (checked-taken σ s e .0))
 
-abbrev given : tie.Start → Setting
-given c = record { w = c .args .w; p = c .args .p; q = c .args .q }
+-- the setting that is asked about, as the check finds it
+abbrev given : tie.After-check → Setting
+given c = record { w = c .before .args .w; p = c .before .args .p; q = c .before .args .q }
+
+-- what the check said where it took the setting
+says : (c : tie.After-known-told) → checked (given (c .before .before .before)) ≡ checked·.Taken (c .before .s .given .0 .0)
+says c = sym (c .before .before .before .check .ensures) ∙ c .before .s .given .1
 
 check-requires : tie.Need-check-requires
-check-requires c κs = search needs
+check-requires c κs = tt
 
 enum-known-s : tie.Need-enum-known-s
 enum-known-s c = search needs
@@ -56,17 +59,16 @@ enum-told : tie.Need-enum-told
 enum-told c = search needs
 
 none-requires : tie.Need-none-requires
-none-requires c κs = search needs
+none-requires c κs = tt
 
 returns : tie.Need-returns
-returns c = none-of (given (c .before .before .before .before)) (sym (c .before .before .before .check .ensures) ∙ c .before .enum-told .given .1) (c .none .ensures)
+returns c =
+    let refused = c .before in
+    let check = refused .before .before in
+    none-of (given check) (sym (check .check .ensures) ∙ refused .enum-told .given .1) (c .none .ensures)
 
 build-requires : tie.Need-build-requires
-build-requires c κs = search needs
-
--- what the check said where it took the setting
-says : (c : tie.After-known-told) → checked (given (c .before .before .before .before)) ≡ checked·.Taken (c .before .s .given .0 .0)
-says c = sym (c .before .before .before .check .ensures) ∙ c .before .s .given .1
+build-requires c κs = tt
 
 mirrored-requires : tie.Need-mirrored-requires
 mirrored-requires c κs = can-mirror _ _ (says (c .before)) (c .build .ensures)

@@ -7,25 +7,21 @@ use Rattle.setting.specs.Setting.{Taken, taken}
 use Rattle.setting.proofs.Limits.{taken-iff}
 use Rattle.setting.proofs.Answers.{checked-taken, checked-refused}
 use Rattle.quarter.specs.Cutting.{quarter}
-use Rattle.quarter.specs.Answer.{quarterOf, cornered}
+use Rattle.quarter.specs.Answer.{quarterOf}
 use Rattle.quarter.proofs.Cornered.{cornered-taken, cornered-none}
 use Rattle.quarter.proofs.build.Statement.{statement}
 use Rattle.quarter.proofs.build.Tie as tie
-use Rattle.quarter.proofs.build.Reads as reads
-use Rattle.quarter.proofs.build.Lts as lts
-use Rattle.quarter.proofs.corners.none.Reads as none-reads
-use Rattle.quarter.proofs.corners.quarter.Reads as quarter-reads
-use Rattle.setting.proofs.check.Reads as check-reads
 
--- where the check took t, the setting s is t and within the limits
-abbrev given : tie.After-known-told → Setting
-given c = c .before .before .before .before .args .s
+-- the setting that is asked about, as the check finds it
+abbrev given : tie.After-check → Setting
+given c = c .before .args .s
 
-passed : (c : tie.After-known-told) → (taken (given c) ≡ true) × (given c ≡ c .before .t .given .0 .0)
-passed c = checked-taken (given c) _ (sym (c .before .before .before .check .ensures) ∙ c .before .t .given .1)
+-- where the check took t, the setting is t and within the limits
+passed : (c : tie.After-known-told) → let σ = given (c .before .before .before) in (taken σ ≡ true) × (σ ≡ c .before .t .given .0 .0)
+passed c = checked-taken _ _ (sym (c .before .before .before .check .ensures) ∙ c .before .t .given .1)
 
 check-requires : tie.Need-check-requires
-check-requires c κs = search needs
+check-requires c κs = tt
 
 enum-known-t : tie.Need-enum-known-t
 enum-known-t c = search needs
@@ -34,12 +30,14 @@ enum-told : tie.Need-enum-told
 enum-told c = search needs
 
 none-requires : tie.Need-none-requires
-none-requires c κs = search needs
+none-requires c κs = tt
 
 returns : tie.Need-returns
 returns c =
-    let σ = c .before .before .before .before .args .s in
-    c .none .ensures ∙ sym (cornered-none σ (checked-refused σ (sym (c .before .before .before .check .ensures) ∙ c .before .enum-told .given .1)))
+    let refused = c .before in
+    let check = refused .before .before in
+    let σ = given check in
+    c .none .ensures ∙ sym (cornered-none σ (checked-refused σ (sym (check .check .ensures) ∙ refused .enum-told .given .1)))
 
 quarter-requires : tie.Need-quarter-requires
 quarter-requires c κs = let k = passed c in subst Taken (k .1) (taken-iff _ .0 (k .0))

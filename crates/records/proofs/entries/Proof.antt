@@ -4,15 +4,12 @@ use borrow.Author.Needs.{needs}
 use Rattle.records.proofs.entries.Statement.{statement}
 use Rattle.records.proofs.entries.Tie as tie
 
--- src/lib.rt:26:16
 mul-result : tie.Need-mul-result
 mul-result c = search needs
 
--- src/lib.rt:26:9
 returns : tie.Need-returns
 returns c = entries-few (c .before .args .room) (c .if1 .taken)
 
--- src/lib.rt:22:1
 returns-2 : tie.Need-returns-2
 returns-2 c = entries-all (c .before .args .room) (c .if1 .left)
 

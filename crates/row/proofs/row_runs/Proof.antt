@@ -1,14 +1,29 @@
 -- Where no pen is held the call refuses; otherwise the row is that of the place's pen.
-use Rattle.row.proofs.Calls.{call-refused, call-at}
-use Rattle.aperture.proofs.Theorems.{looked-small}
+use Prim.Native.Nat.{ℕ, _<_}
+use mathlib.Core.Path.{_≡_, sym, _∙_}
 use native.Mathlib.Omega.{arith}
-use mathlib.Core.Path.{sym, _∙_}
 use borrow.Author.Needs.{needs}
+use Rattle.limits.specs.Sizes.{places}
+use Rattle.aperture.specs.declared.Looked.the-variants as looked·
+use Rattle.aperture.specs.Table.{looked}
+use Rattle.aperture.proofs.Theorems.{looked-small}
+use Rattle.row.proofs.Calls.{call-refused, call-at}
 use Rattle.row.proofs.row_runs.Statement.{statement}
 use Rattle.row.proofs.row_runs.Tie as tie
-use Rattle.aperture.proofs.look_up.Reads as look-up-reads
-use Rattle.checks.proofs.report.Reads as report-reads
-use Rattle.row.proofs.runs_for.Reads as runs-for-reads
+
+-- where the aperture has been looked up
+abbrev start : tie.After-look-up → tie.Start
+start c = c .before .before
+
+-- where it is in use: its place is one of the table's
+abbrev place : tie.After-i → ℕ
+place c = c .i .given .0 .0
+
+found : (c : tie.After-i) → let a = start (c .before .before) .args in looked (a .t1) (a .number) ≡ looked·.At (place c)
+found c = sym (c .before .before .look-up .ensures) ∙ c .i .given .1
+
+small : (c : tie.After-i) → place c < places
+small c = let a = start (c .before .before) .args in looked-small (a .t1) (a .number) (place c) (found c)
 
 look-up-requires : tie.Need-look-up-requires
 look-up-requires c κs = search needs
@@ -23,13 +38,16 @@ report-requires : tie.Need-report-requires
 report-requires c κs = search needs
 
 returns : tie.Need-returns
-returns c = let a = c .before .before .before .before .before .args in call-refused (a .t1) (a .number) (a .path .now) (a .columns) (a .rows) (a .row) (a .runs .now) (sym (c .before .before .before .look-up .ensures) ∙ c .before .enum-told .given .1) (c .report .ensures)
+returns c =
+    let k = c .before .before .before in
+    let a = start k .args in
+    call-refused (a .t1) (a .number) (a .path .now) (a .columns) (a .rows) (a .row) (a .runs .now) (sym (k .look-up .ensures) ∙ c .before .enum-told .given .1) (c .report .ensures)
 
 mul-place : tie.Need-mul-place
-mul-place c = let b = looked-small (c .before .before .before .before .before .args .t1) (c .before .before .before .before .before .args .number) (c .before .i .given .0 .0) (sym (c .before .before .before .look-up .ensures) ∙ c .before .i .given .1) in record { fits = omega (arith, b) }
+mul-place c = record { fits = omega (arith, small (c .before)) }
 
 element-copy-out-place : tie.Need-element-copy-out-place
-element-copy-out-place c = looked-small (c .before .before .before .before .before .args .t1) (c .before .before .before .before .before .args .number) (c .before .i .given .0 .0) (sym (c .before .before .before .look-up .ensures) ∙ c .before .i .given .1)
+element-copy-out-place c = small (c .before)
 
 runs-for-requires : tie.Need-runs-for-requires
 runs-for-requires c κs = search needs
@@ -38,7 +56,11 @@ same-length : tie.Need-same-length
 same-length c = search needs
 
 returns-2 : tie.Need-returns-2
-returns-2 c = let a = c .before .before .before .before .before .before .before .before .before .before .args in c .before .before .runs-for .ensures ∙ call-at (a .t1) (a .number) (a .path .now) (a .columns) (a .rows) (a .row) (a .runs .now) (c .before .before .before .before .before .before .i .given .0 .0) (sym (c .before .before .before .before .before .before .before .before .look-up .ensures) ∙ c .before .before .before .before .before .before .i .given .1)
+returns-2 c =
+    let drawn = c .before .before in
+    let p = drawn .before .before .before .before in
+    let a = start (p .before .before) .args in
+    drawn .runs-for .ensures ∙ call-at (a .t1) (a .number) (a .path .now) (a .columns) (a .rows) (a .row) (a .runs .now) (place p) (found p)
 
 pub row-runs-spec : {M : Type 1} → statement M
 row-runs-spec =

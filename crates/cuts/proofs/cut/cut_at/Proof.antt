@@ -2,12 +2,11 @@
 use Rattle.extent.specs.Answer.{extentOf, seg}
 use Rattle.extent.specs.declared.Extent.{Extent}
 use Rattle.extent.specs.declared.Extent.the-variants as extent·
+use Rattle.cuts.specs.declared.cut.Cut.{Cut}
 use Rattle.cuts.specs.declared.cut.Cut.the-variants as cut·
-use Rattle.stroke.specs.Sweep.{pathPoints}
-use Rattle.cuts.specs.Cuts.{cutTo, extentIn, cuts}
-use Rattle.cuts.proofs.Raster.{cut-place, cut-bounds}
-use Rattle.stroke.specs.Sweep.{Seg, segments}
-use Rattle.stroke.specs.Extent.{columns, extent}
+use Rattle.cuts.specs.Cuts.{cutTo, extentIn, cutsOf, Below}
+use Rattle.cuts.proofs.Raster.{cut-place, cut-below}
+use Rattle.stroke.specs.Sweep.{Seg, segments, pathPoints}
 use Rattle.plane.specs.Point.{Pt, corners}
 use mir.Syntax.{Width, w32, w64}
 use mir.Val.{toZ, ofZ, hbits}
@@ -26,7 +25,8 @@ use Rattle.cuts.proofs.cut.cut_at.Tie as tie
 reads : (w : Width) {z : ℤ} → mag z < 2 ^ hbits w → toZ w (ofZ w z) ≡ z
 reads w h = toZ-ofZ {w = w} (sfits-of h)
 
-same-extent : (cs : List Pt) (j : ℕ) {ax ay bx by ax′ ay′ bx′ by′ : ℤ} → ax ≡ ax′ → ay ≡ ay′ → bx ≡ bx′ → by ≡ by′ → extentOf cs ax ay bx by j ≡ extentOf cs ax′ ay′ bx′ by′ j
+same-extent : (cs : List Pt) (j : ℕ) {ax ay bx by ax′ ay′ bx′ by′ : ℤ} → ax ≡ ax′ → ay ≡ ay′ → bx ≡ bx′ → by ≡ by′ →
+    extentOf cs ax ay bx by j ≡ extentOf cs ax′ ay′ bx′ by′ j
 same-extent cs j a b c d = cc
 
 -- ---- the segment's span and its cut by the definition
@@ -40,17 +40,36 @@ pen c = corners (c .args .count) (c .args .xs .now) (c .args .ys .now)
 abbrev answer : tie.Start → Extent
 answer c = extentIn (pen c) (c .args .row) (getD (segments (pathPoints (c .args .path .now))) (c .args .k) past)
 
-is-cut : (c : tie.Start) → getD (cuts (pen c) (pathPoints (c .args .path .now)) (c .args .columns) (c .args .row)) (c .args .k) cut·.Nothing ≡ cutTo (c .args .columns) (answer c)
-is-cut c = cut-place (pen c) (pathPoints (c .args .path .now)) (c .args .columns) (c .args .row) (c .args .k) past (c .pre .0)
+is-cut : (c : tie.Start) → let a = c .args in
+    getD (cutsOf (a .xs .now) (a .ys .now) (a .count) (a .path .now) (a .columns) (a .row)) (a .k) cut·.Nothing ≡ cutTo (a .columns) (answer c)
+is-cut c = let a = c .args in cut-place (pen c) (pathPoints (a .path .now)) (a .columns) (a .row) (a .k) past (c .pre .0)
 
-is-answer : (c : tie.After-extent-at) → c .extent-at .result ≡ answer (c .before .before .before .before .before .before)
+-- ---- the places: the start, the end of the segment as it was found, and its extent
+abbrev start : tie.After-end-of → tie.Start
+start c = c .before
+
+abbrev found : tie.After-extent-at-arg4 → tie.After-end-of
+found c = c .before .before .before .before
+
+abbrev asked : tie.After-extent-at → tie.Start
+asked c = start (found (c .before))
+
+-- the four entries that were read are those of the segment's ends
+is-answer : (c : tie.After-extent-at) → c .extent-at .result ≡ answer (asked c)
 is-answer c =
-    let s = c .before .before .before .before .before .before in
-    let e = c .before .before .before .before .before .end-of .ensures in
+    let s = asked c in
+    let d = c .before in
     c .extent-at .ensures
-    ∙ same-extent (pen s) (s .args .row) (reads w32 (c .before .before .before .before .extent-at-arg .given)) (reads w32 (c .before .before .before .extent-at-arg2 .given))
-    (reads w32 (c .before .before .extent-at-arg3 .given)) (reads w32 (c .before .extent-at-arg4 .given))
-    ∙ ap (extentIn (pen s) (s .args .row)) (sym (e .1 past))
+    ∙ same-extent (pen s) (s .args .row) (reads w32 (d .before .before .before .extent-at-arg .given)) (reads w32 (d .before .before .extent-at-arg2 .given))
+    (reads w32 (d .before .extent-at-arg3 .given)) (reads w32 (d .extent-at-arg4 .given))
+    ∙ ap (extentIn (pen s) (s .args .row)) (sym (found d .end-of .ensures .segment past))
+
+-- so what is cut as the definition cuts it is the cut of the segment, and lies in the raster
+is-cut-of : (c : tie.After-extent-at) {r : Cut} → let a = asked c .args in r ≡ cutTo (a .columns) (c .extent-at .result) →
+    (r ≡ getD (cutsOf (a .xs .now) (a .ys .now) (a .count) (a .path .now) (a .columns) (a .row)) (a .k) cut·.Nothing) × Below (a .columns) r
+is-cut-of c e =
+    let s = asked c in
+    (e ∙ ap (cutTo (s .args .columns)) (is-answer c) ∙ sym (is-cut s), cut-below (c .extent-at .result) e)
 
 end-of-requires : tie.Need-end-of-requires
 end-of-requires c κs = search needs
@@ -99,20 +118,19 @@ enum-told c = search needs
 
 returns : tie.Need-returns
 returns c =
-    let s = c .before .before .before .before .before .before .before .before in
-    let e = ap (cutTo (s .args .columns)) (sym (c .enum-told .given .1) ∙ is-answer (c .before .before)) in
-    (e ∙ sym (is-cut s), cut-bounds (answer s) e)
+    let at-extent = c .before .before in
+    is-cut-of at-extent (ap (cutTo (asked at-extent .args .columns)) (sym (c .enum-told .given .1)))
 
 cut-span-requires : tie.Need-cut-span-requires
 cut-span-requires c κs = search needs
 
 returns-2 : tie.Need-returns-2
 returns-2 c =
-    let s = c .before .before .before .before .before .before .before .before .before .before in
+    let at-match = c .before .before in
+    let at-extent = at-match .before .before in
     let f = c .before .known-told .given in
-    let q = sym (c .before .before .e .given .1) ∙ is-answer (c .before .before .before .before) in
-    let e = c .cut-span .ensures ∙ ap (cutTo (s .args .columns)) (ap₂ extent·.Columns (reads w64 (f .0 .1)) (reads w64 (f .1 .0 .1)) ∙ q) in
-    (e ∙ sym (is-cut s), cut-bounds (answer s) e)
+    is-cut-of at-extent
+    (c .cut-span .ensures ∙ ap (cutTo (asked at-extent .args .columns)) (ap₂ extent·.Columns (reads w64 (f .0 .1)) (reads w64 (f .1 .0 .1)) ∙ sym (at-match .e .given .1)))
 
 pub cut-at-spec : {M : Type 1} → statement M
 cut-at-spec =

@@ -15,10 +15,13 @@ add-result : tie.Need-add-result
 add-result c = search needs
 
 returns : tie.Need-returns
-returns c = let a = c .before .args in ((omega arith, omega arith), λ g. next-end (a .path .now) (a .k) g (c .if1 .taken))
+returns c = let a = c .before .args in record { after = omega arith; held = omega arith; segment = λ g. next-end (a .path .now) (a .k) g (c .if1 .taken) }
 
 returns-2 : tie.Need-returns-2
-returns-2 c = let a = c .before .args in ((omega arith, start-in (a .path .now) (a .k) (c .before .pre)), λ g. own-end (a .path .now) (a .k) g (c .before .pre) (c .if1 .left))
+returns-2 c =
+    let a = c .before .args in
+    let h = c .before .pre in
+    record { after = omega arith; held = start-in (a .path .now) (a .k) h; segment = λ g. own-end (a .path .now) (a .k) g h (c .if1 .left) }
 
 pub end-of-spec : {M : Type 1} → statement M
 end-of-spec = tie.close (tie.spec mul-from add-if1 add-result returns returns-2)

@@ -1,4 +1,4 @@
--- What `further` answers is stored.
+-- The further of the two ends is stored.
 use mathlib.Core.Path.{ap, _∙_}
 use native.Mathlib.Numerals.{add-one}
 use lib.ListN.{getD, set}
@@ -13,14 +13,14 @@ add-end c = search needs
 cast-end : tie.Need-cast-end
 cast-end c = search needs
 
-mul-further : tie.Need-mul-further
-mul-further c = search needs
+mul-max-u16 : tie.Need-mul-max-u16
+mul-max-u16 c = search needs
 
-slice-read-further : tie.Need-slice-read-further
-slice-read-further c = search needs
+slice-read-max-u16 : tie.Need-slice-read-max-u16
+slice-read-max-u16 c = search needs
 
-further-requires : tie.Need-further-requires
-further-requires c κs = search needs
+max-u16-requires : tie.Need-max-u16-requires
+max-u16-requires c κs = search needs
 
 mul-far : tie.Need-mul-far
 mul-far c = search needs
@@ -34,7 +34,7 @@ same-length c = search needs
 returns : tie.Need-returns
 returns c =
     let a = c .before .before .before .args in
-    ap (set (a .far .now) (a .left)) (c .further .ensures ∙ ap (max (getD (a .far .now) (a .left) 0)) (add-one (a .right)))
+    ap (set (a .far .now) (a .left)) (c .max-u16 .ensures ∙ ap (max (getD (a .far .now) (a .left) 0)) (add-one (a .right)))
 
 pub mark-spec : {M : Type 1} → statement M
 mark-spec =
@@ -42,9 +42,9 @@ mark-spec =
     (tie.spec
     add-end
     cast-end
-    mul-further
-    slice-read-further
-    further-requires
+    mul-max-u16
+    slice-read-max-u16
+    max-u16-requires
     mul-far
     slice-write-far
     same-length

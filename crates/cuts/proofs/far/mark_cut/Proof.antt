@@ -1,33 +1,42 @@
 -- A cut without columns leaves the array, as the definition says.
 use Rattle.cuts.specs.Cuts.{farther}
 use mathlib.Core.Path.{sym, ap, _∙_}
+use native.Mathlib.Omega.{arith}
 use borrow.Author.Needs.{needs}
 use Rattle.cuts.proofs.far.mark_cut.Statement.{statement}
 use Rattle.cuts.proofs.far.mark_cut.Tie as tie
 
--- src/draw.rt:59:22
+-- the places: the start, and the columns of the cut as they were read
+abbrev start : tie.After-cut → tie.Start
+start c = c .before .before .before
+
+abbrev columns : tie.After-mark → tie.After-cut
+columns c = c .before .before .before
+
 enum-known-cut : tie.Need-enum-known-cut
 enum-known-cut c = search needs
 
--- src/draw.rt:60:9
 enum-told : tie.Need-enum-told
 enum-told c = search needs
 
--- src/draw.rt:60:9
 returns : tie.Need-returns
 returns c = search needs
 
--- src/draw.rt:62:5
 mark-requires : tie.Need-mark-requires
-mark-requires c κs = let b = c .before .before .before .before .before .pre _ _ (c .before .before .cut .given .1) in (b .0, b .1)
+mark-requires c κs =
+    let at-cut = c .before .before in
+    let p = start at-cut .pre in
+    let b = p .0 _ _ (at-cut .cut .given .1) in
+    (omega arith, p .1 _ _ (at-cut .cut .given .1) .1)
 
--- src/draw.rt:55:1
 same-length : tie.Need-same-length
 same-length c = search needs
 
--- src/draw.rt:55:1
 returns-2 : tie.Need-returns-2
-returns-2 c = c .before .before .mark .ensures ∙ sym (ap (farther (c .before .before .before .before .before .before .before .before .args .far .now)) (c .before .before .before .before .before .cut .given .1))
+returns-2 c =
+    let at-mark = c .before .before in
+    let at-cut = columns at-mark in
+    at-mark .mark .ensures ∙ sym (ap (farther (start at-cut .args .far .now)) (at-cut .cut .given .1))
 
 pub mark-cut-spec : {M : Type 1} → statement M
 mark-cut-spec =

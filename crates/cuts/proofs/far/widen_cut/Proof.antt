@@ -15,7 +15,7 @@ returns : tie.Need-returns
 returns c = search needs
 
 widen-requires : tie.Need-widen-requires
-widen-requires c κs = c .before .before .before .pre _ _ (c .before .cut .given .1)
+widen-requires c κs = c .before .before .before .pre _ _ (c .before .cut .given .1) .1
 
 returns-2 : tie.Need-returns-2
 returns-2 c = c .widen .ensures ∙ sym (ap (wider (c .before .before .before .before .args .b)) (c .before .before .cut .given .1))

@@ -18,16 +18,28 @@ use Rattle.extent.proofs.Round.{no-path, two-paths}
 use Rattle.extent.proofs.side.along.Statement.{statement}
 use Rattle.extent.proofs.side.along.Tie as tie
 
+-- ---- the places: the start, from where the ends are known to differ; and that place, from where all four numbers have been read
+abbrev start-of : tie.Joined1 → tie.Start
+start-of c = c .before .before .before
+
+abbrev joined : tie.After-struct-told4 → tie.Joined1
+joined c = c .before .before .before .before
+
+abbrev begun : tie.After-touch → tie.Start
+begun c = start-of (joined (c .before))
+
+-- the way from A to B
 u : (s : tie.Start) → let g = s .args .g in Is w64 (g .bx -ℤ g .ax) (bits (g .bx) ⊖ bits (g .ax)) (2 ^ 19)
-u s = let n = s .pre .1 .1 .0 in sub (known (n .bx-small) tt) (known (n .ax-small) tt) tt
+u s = let n = s .pre .1 .1 in sub (known (n .bx-small) tt) (known (n .ax-small) tt) tt
 
 v : (s : tie.Start) → let g = s .args .g in Is w64 (g .by -ℤ g .ay) (bits (g .by) ⊖ bits (g .ay)) (2 ^ 19)
-v s = let n = s .pre .1 .1 .0 in sub (known (n .by-small) tt) (known (n .ay-small) tt) tt
+v s = let n = s .pre .1 .1 in sub (known (n .by-small) tt) (known (n .ay-small) tt) tt
 
-differ : (c : tie.Joined1) → let g = c .before .before .before .args .g in same (pt (g .ax) (g .ay)) (pt (g .bx) (g .by)) ≡ false
+-- past the test the ends differ
+differ : (c : tie.Joined1) → let g = start-of c .args .g in same (pt (g .ax) (g .ay)) (pt (g .bx) (g .by)) ≡ false
 differ c =
-    let g = c .before .before .before .args .g in
-    let n = c .before .before .before .pre .1 .1 .0 in
+    let g = start-of c .args .g in
+    let n = start-of c .pre .1 .1 in
     ⊎-elim
     (λ w. and-false (eqZ (g .ax) (g .bx)) (eqZ (g .ay) (g .by)) (sym (eqZ-at (known (n .ay-small) tt) (known (n .by-small) tt)) ∙ w .3 .left))
     (λ w. sym (false-and (eqZ (g .ax) (g .bx)) (eqZ (g .ay) (g .by)) (not-eqz (g .ax) (g .bx) (λ e. w .left (eq-bits (known (n .ax-small) tt) (known (n .bx-small) tt) e)))))
@@ -35,47 +47,53 @@ differ c =
 
 returns : tie.Need-returns
 returns c =
-    let s = c .before .before .before .before .before .before in
+    let at-first = c .before .before .before in
+    let s = at-first .before .before .before in
     let r = s .args in
-    let n = s .pre .1 .1 .0 in
-    let x = eq-yes (known {w = w64} (n .ax-small) tt) (known (n .bx-small) tt) (c .before .before .before .if1 .taken) in
+    let g = r .g in
+    let n = s .pre .1 .1 in
+    let x = eq-yes (known {w = w64} (n .ax-small) tt) (known (n .bx-small) tt) (at-first .if1 .taken) in
     let y = sym (eqZ-at (known {w = w64} (n .ay-small) tt) (known (n .by-small) tt)) ∙ c .if2 .taken in
-    (no-path (corners (r .n) (now (r .xs)) (now (r .ys))) (ends (r .g)) (pos (r .row)) (left (r .s)) (and-true (eqZ (r .g .ax) (r .g .bx)) (eqZ (r .g .ay) (r .g .by)) (eq-iff (r .g .ax) (r .g .bx) .1 x) y), s .pre .0)
+    let e = and-true (eqZ (g .ax) (g .bx)) (eqZ (g .ay) (g .by)) (eq-iff (g .ax) (g .bx) .1 x) y in
+    (no-path (corners (r .n) (now (r .xs)) (now (r .ys))) (ends g) (pos (r .row)) (left (r .s)) e, s .pre .0)
 
 sub-u : tie.Need-sub-u
-sub-u c = let n = c .before .before .before .before .before .pre .1 .1 .0 in sub-fits (known (n .bx-small) tt) (known (n .ax-small) tt) tt
+sub-u c = let n = start-of (c .before .before) .pre .1 .1 in sub-fits (known (n .bx-small) tt) (known (n .ax-small) tt) tt
 
 sub-v : tie.Need-sub-v
-sub-v c = let n = c .before .before .before .before .before .before .before .pre .1 .1 .0 in sub-fits (known (n .by-small) tt) (known (n .ay-small) tt) tt
+sub-v c = let n = start-of (joined c) .pre .1 .1 in sub-fits (known (n .by-small) tt) (known (n .ay-small) tt) tt
 
 sub-touch : tie.Need-sub-touch
-sub-touch c = sub-fits (num (pos 0) tt) (u (c .before .before .before .before .before .before .before)) tt
+sub-touch c = sub-fits (num (pos 0) tt) (u (start-of (joined c))) tt
 
 touch-requires : tie.Need-touch-requires
 touch-requires c κs =
-    let s = c .before .before .before .before .before .before .before in
+    let s = start-of (joined c) in
     let p = s .pre in
-    (p .0, (p .1 .0, (p .1 .1 .0, ((bound (v s), bound (opposite (u s) tt)), p .1 .1 .1))))
+    (p .0, (p .1 .0, (p .1 .1, record { a-small = bound (v s); b-small = bound (opposite (u s) tt) })))
 
 sub-touch-2 : tie.Need-sub-touch-2
-sub-touch-2 c = sub-fits (num (pos 0) tt) (v (c .before .before .before .before .before .before .before .before)) tt
+sub-touch-2 c = sub-fits (num (pos 0) tt) (v (begun c)) tt
 
 touch-requires-2 : tie.Need-touch-requires-2
 touch-requires-2 c κs =
-    let s = c .before .before .before .before .before .before .before .before in
+    let s = begun c in
     let p = s .pre in
-    (c .touch .ensures .1, (p .1 .0, (p .1 .1 .0, ((bound (opposite (v s) tt), bound (u s)), p .1 .1 .1))))
+    (c .touch .ensures .1, (p .1 .0, (p .1 .1, record { a-small = bound (opposite (v s) tt); b-small = bound (u s) })))
 
 returns-2 : tie.Need-returns-2
 returns-2 c =
-    let s = c .before .before .before .before .before .before .before .before .before in
+    let at-touch = c .before in
+    let s = begun at-touch in
     let r = s .args in
-    let side : ℤ → ℤ → Left → Left = λ a b l. narrow (pos (r .row)) (touching (corners (r .n) (now (r .xs)) (now (r .ys))) (pt (r .g .ax) (r .g .ay)) a b) l in
+    let g = r .g in
+    let cs = corners (r .n) (now (r .xs)) (now (r .ys)) in
+    let side : ℤ → ℤ → Left → Left = λ a b l. narrow (pos (r .row)) (touching cs (pt (g .ax) (g .ay)) a b) l in
     let e = c .touch2 .ensures in
-    let d = c .before .touch .ensures in (
-      e .0 ∙ ap₂ (λ (a b : ℤ). side a b (left (c .before .touch .result))) (opposite (v s) tt .reads) (u s .reads)
-          ∙ ap (side (negℤ (r .g .by -ℤ r .g .ay)) (r .g .bx -ℤ r .g .ax)) (d .0 ∙ ap₂ (λ (a b : ℤ). side a b (left (r .s))) (v s .reads) (opposite (u s) tt .reads))
-          ∙ two-paths (corners (r .n) (now (r .xs)) (now (r .ys))) (ends (r .g)) (pos (r .row)) (left (r .s)) (differ (c .before .before .before .before .before .before)),
+    let d = at-touch .touch .ensures in (
+      e .0 ∙ ap₂ (λ (a b : ℤ). side a b (left (at-touch .touch .result))) (opposite (v s) tt .reads) (u s .reads)
+          ∙ ap (side (negℤ (g .by -ℤ g .ay)) (g .bx -ℤ g .ax)) (d .0 ∙ ap₂ (λ (a b : ℤ). side a b (left (r .s))) (v s .reads) (opposite (u s) tt .reads))
+          ∙ two-paths cs (ends g) (pos (r .row)) (left (r .s)) (differ (joined (at-touch .before))),
       e .1,
     )
 

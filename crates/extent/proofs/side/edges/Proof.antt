@@ -20,7 +20,7 @@ use Rattle.stroke.specs.Extent.{Left, narrow, narrowed}
 use Rattle.extent.specs.Held.{Held, Steady, left, ends}
 use Rattle.extent.proofs.Bits.{bits, coordinate}
 use Rattle.extent.proofs.Read.{place}
-use Rattle.extent.proofs.Round.{after, since, at-start, one-edge, at-end}
+use Rattle.extent.proofs.Round.{cornerAfter, leftSince, since-start, since-next, since-end}
 use Rattle.extent.proofs.side.edges.Statement.{statement}
 use Rattle.extent.proofs.side.edges.Tie as tie
 
@@ -29,7 +29,17 @@ record Going (n : ℕ) (xs ys : List ℤ) (j : ℤ) (g : Seg) (r₀ r : Limits) 
   held : Held n xs ys
   within : i ≤ n
   steady : Steady r
-  same : narrowed j (map (moved g) (edges (corners n xs ys))) (left r₀) ≡ since n xs ys (held .in-xs) (held .in-ys) j g i (left r)
+  same : narrowed j (map (moved g) (edges (corners n xs ys))) (left r₀) ≡ leftSince n xs ys (held .in-xs) (held .in-ys) j g i (left r)
+
+-- one edge more
+going-on : {n : ℕ} {xs ys : List ℤ} {j : ℤ} {g : Seg} {r₀ r r′ : Limits} {i : ℕ} → Going n xs ys j g r₀ r i → i < n → Steady r′ →
+    left r′ ≡ narrow j (moved g (edge (place xs ys i) (place xs ys (cornerAfter i n)))) (left r) → Going n xs ys j g r₀ r′ (i + 1)
+going-on {n} {xs} {ys} {j} {g} {r = r} {i = i} v h t e = let k = v .held in record {
+  held = k;
+  within = omega arith;
+  steady = t;
+  same = v .same ∙ since-next n xs ys (k .in-xs) (k .in-ys) j g (left r) i h ∙ ap (leftSince n xs ys (k .in-xs) (k .in-ys) j g (i + 1)) (sym e);
+}
 
 abbrev Inv-loop : tie.InvT-loop
 Inv-loop xs ys n g row r₀ i₀ r i = Going n xs ys (pos row) (ends g) r₀ r i
@@ -38,7 +48,7 @@ abbrev μ-loop : tie.MeasureT-loop
 μ-loop xs ys n g row r₀ i₀ r i = n - i
 
 -- the next corner's place lies in the arrays
-after-below : (i n : ℕ) → i < n → after i n < n
+after-below : (i n : ℕ) → i < n → cornerAfter i n < n
 after-below i n h = go (ltb (i + 1) n) refl
   where
     go : (t : Bool) → ltb (i + 1) n ≡ t → cond t (i + 1) 0 < n
@@ -48,54 +58,70 @@ after-below i n h = go (ltb (i + 1) n) refl
 next-below : (c : tie.After-next Inv-loop μ-loop) → c .next .result < c .before .before .before .args .n
 next-below c = rw (c .next .ensures) (after-below _ _ (c .before .loop-test .taken))
 
--- the corners that were read
-px : (c : tie.After-wide4 Inv-loop μ-loop) → Is w64 (getD (now (c .before .before .before .before .before .before .before .before .before .before .before .args .xs)) (c .before .before .before .before .before .before .before .before .before .before .loop .i) (pos 0)) (bits (c .before .before .before .before .before .before .wide .result)) 128
-px c = coordinate (record { sfits = c .before .before .before .before .before .before .before .wide-arg .given }) (c .before .before .before .before .before .before .wide .ensures)
+-- ---- the places: the start and the loop, from where the next corner's place is known; that, from where P has been read; and P, from where Q has
+abbrev start-of : tie.After-next Inv-loop μ-loop → tie.Start Inv-loop μ-loop
+start-of c = c .before .before .before
 
-py : (c : tie.After-wide4 Inv-loop μ-loop) → Is w64 (getD (now (c .before .before .before .before .before .before .before .before .before .before .before .args .ys)) (c .before .before .before .before .before .before .before .before .before .before .loop .i) (pos 0)) (bits (c .before .before .before .before .wide2 .result)) 128
-py c = coordinate (record { sfits = c .before .before .before .before .before .wide-arg2 .given }) (c .before .before .before .before .wide2 .ensures)
+abbrev looped : tie.After-next Inv-loop μ-loop → tie.At-loop Inv-loop μ-loop
+looped c = c .before .before
 
-qx : (c : tie.After-wide4 Inv-loop μ-loop) → Is w64 (getD (now (c .before .before .before .before .before .before .before .before .before .before .before .args .xs)) (c .before .before .before .before .before .before .before .before .next .result) (pos 0)) (bits (c .before .before .wide3 .result)) 128
-qx c = coordinate (record { sfits = c .before .before .before .wide-arg3 .given }) (c .before .before .wide3 .ensures)
+abbrev placed : tie.After-wide2 Inv-loop μ-loop → tie.After-next Inv-loop μ-loop
+placed c = c .before .before .before .before
 
-qy : (c : tie.After-wide4 Inv-loop μ-loop) → Is w64 (getD (now (c .before .before .before .before .before .before .before .before .before .before .before .args .ys)) (c .before .before .before .before .before .before .before .before .next .result) (pos 0)) (bits (c .wide4 .result)) 128
+abbrev read-P : tie.After-wide4 Inv-loop μ-loop → tie.After-wide2 Inv-loop μ-loop
+read-P c = c .before .before .before .before
+
+-- the corners P and Q that were read
+px : (c : tie.After-wide2 Inv-loop μ-loop) → let p = placed c in
+    Is w64 (getD (now (start-of p .args .xs)) (looped p .loop .i) (pos 0)) (bits (c .before .before .wide .result)) 128
+px c = let at-x = c .before .before in coordinate (record { sfits = at-x .before .wide-arg .given }) (at-x .wide .ensures)
+
+py : (c : tie.After-wide2 Inv-loop μ-loop) → let p = placed c in Is w64 (getD (now (start-of p .args .ys)) (looped p .loop .i) (pos 0)) (bits (c .wide2 .result)) 128
+py c = coordinate (record { sfits = c .before .wide-arg2 .given }) (c .wide2 .ensures)
+
+qx : (c : tie.After-wide4 Inv-loop μ-loop) → let p = placed (read-P c) in
+    Is w64 (getD (now (start-of p .args .xs)) (p .next .result) (pos 0)) (bits (c .before .before .wide3 .result)) 128
+qx c = let at-x = c .before .before in coordinate (record { sfits = at-x .before .wide-arg3 .given }) (at-x .wide3 .ensures)
+
+qy : (c : tie.After-wide4 Inv-loop μ-loop) → let p = placed (read-P c) in Is w64 (getD (now (start-of p .args .ys)) (p .next .result) (pos 0)) (bits (c .wide4 .result)) 128
 qy c = coordinate (record { sfits = c .before .wide-arg4 .given }) (c .wide4 .ensures)
 
+-- ---- the needs
 loop-holds : tie.Need-loop-holds Inv-loop μ-loop
-loop-holds c = let h = c .pre .1 .0 in record { held = h; within = omega arith; steady = c .pre .0; same = at-start _ _ _ (h .in-xs) (h .in-ys) _ _ _ }
+loop-holds c = let h = c .pre .1 .0 in record { held = h; within = omega arith; steady = c .pre .0; same = since-start _ _ _ (h .in-xs) (h .in-ys) _ _ _ }
 
 next-requires : tie.Need-next-requires Inv-loop μ-loop
 next-requires c κs = omega arith
 
 shared-slice-copy-out-wide : tie.Need-shared-slice-copy-out-wide Inv-loop μ-loop
-shared-slice-copy-out-wide c = omega (arith, c .before .before .loop .inv .held .in-xs)
+shared-slice-copy-out-wide c = omega (arith, looped c .loop .inv .held .in-xs)
 
 wide-requires : tie.Need-wide-requires Inv-loop μ-loop
 wide-requires c κs = tt
 
 shared-slice-copy-out-wide-2 : tie.Need-shared-slice-copy-out-wide-2 Inv-loop μ-loop
-shared-slice-copy-out-wide-2 c = omega (arith, c .before .before .before .before .loop .inv .held .in-ys)
+shared-slice-copy-out-wide-2 c = omega (arith, looped (c .before .before) .loop .inv .held .in-ys)
 
 wide-requires-2 : tie.Need-wide-requires-2 Inv-loop μ-loop
 wide-requires-2 c κs = tt
 
 shared-slice-copy-out-wide-3 : tie.Need-shared-slice-copy-out-wide-3 Inv-loop μ-loop
-shared-slice-copy-out-wide-3 c = omega (arith, c .before .before .before .before .before .before .loop .inv .held .in-xs, next-below (c .before .before .before .before))
+shared-slice-copy-out-wide-3 c = let p = placed c in omega (arith, looped p .loop .inv .held .in-xs, next-below p)
 
 wide-requires-3 : tie.Need-wide-requires-3 Inv-loop μ-loop
 wide-requires-3 c κs = tt
 
 shared-slice-copy-out-wide-4 : tie.Need-shared-slice-copy-out-wide-4 Inv-loop μ-loop
-shared-slice-copy-out-wide-4 c = omega (arith, c .before .before .before .before .before .before .before .before .loop .inv .held .in-ys, next-below (c .before .before .before .before .before .before))
+shared-slice-copy-out-wide-4 c = let p = placed (c .before .before) in omega (arith, looped p .loop .inv .held .in-ys, next-below p)
 
 wide-requires-4 : tie.Need-wide-requires-4 Inv-loop μ-loop
 wide-requires-4 c κs = tt
 
 edge-requires : tie.Need-edge-requires Inv-loop μ-loop
 edge-requires c κs =
-    let s = c .before .before .before .before .before .before .before .before .before .before .before in
-    let p = s .pre .1 .1 in
-    (c .before .before .before .before .before .before .before .before .before .before .loop .inv .steady, (p .0, (p .1, (bound (px c), bound (py c), bound (qx c), bound (qy c)))))
+    let P = read-P c in
+    let p = placed P in
+    (looped p .loop .inv .steady, (start-of p .pre .1 .1, (record { x-small = bound (px P); y-small = bound (py P) }, record { x-small = bound (qx c); y-small = bound (qy c) })))
 
 add-i : tie.Need-add-i Inv-loop μ-loop
 add-i c = omega arith
@@ -105,29 +131,20 @@ loop-less c = omega arith
 
 loop-again : tie.Need-loop-again Inv-loop μ-loop
 loop-again c =
-    let s = c .before .before .before .before .before .before .before .before .before .before .before .before in
-    let a = s .args in
-    let r = c .before .before .before .before .before .before .before .before .before .before .before .loop .r in
-    let i = c .before .before .before .before .before .before .before .before .before .before .before .loop .i in
-    let v = c .before .before .before .before .before .before .before .before .before .before .before .loop .inv in
-    let w = c .before in
-    let narrowed-by : Pt → Pt → Left = λ P Q. narrow (pos (a .row)) (moved (ends (a .g)) (edge P Q)) (left r) in
-    let e = c .edge .ensures .0
-    ∙ ap₂ narrowed-by (ap₂ pt (px w .reads) (py w .reads)) (ap₂ pt (qx w .reads) (qy w .reads) ∙ ap (place (now (a .xs)) (now (a .ys))) (c .before .before .before .before .before .before .before .before .before .next .ensures)) in
-    record {
-      held = v .held;
-      within = omega (arith, c .before .before .before .before .before .before .before .before .before .before .loop-test .taken);
-      steady = c .edge .ensures .1;
-      same = v .same
-          ∙ one-edge (a .n) (now (a .xs)) (now (a .ys)) (v .held .in-xs) (v .held .in-ys) (pos (a .row)) (ends (a .g)) (left r) i (c .before .before .before .before .before .before .before .before .before .before .loop-test .taken)
-          ∙ ap (since (a .n) (now (a .xs)) (now (a .ys)) (v .held .in-xs) (v .held .in-ys) (pos (a .row)) (ends (a .g)) (i + 1)) (sym e);
-    }
+    let Q = c .before in
+    let P = read-P Q in
+    let p = placed P in
+    let a = start-of p .args in
+    let i = looped p .loop in
+    let narrowed-by : Pt → Pt → Left = λ P Q. narrow (pos (a .row)) (moved (ends (a .g)) (edge P Q)) (left (i .r)) in
+    let next-place = ap (place (now (a .xs)) (now (a .ys))) (p .next .ensures) in
+    let e = ap₂ narrowed-by (ap₂ pt (px P .reads) (py P .reads)) (ap₂ pt (qx Q .reads) (qy Q .reads) ∙ next-place) in
+    going-on (i .inv) (p .before .loop-test .taken) (c .edge .ensures .1) (c .edge .ensures .0 ∙ e)
 
 returns : tie.Need-returns Inv-loop μ-loop
 returns c =
-    let s = c .before .before in
     let v = c .before .loop .inv in
-    (sym (v .same ∙ at-end _ _ _ (v .held .in-xs) (v .held .in-ys) _ _ _ _ (omega arith)), v .steady)
+    (sym (v .same ∙ since-end _ _ _ (v .held .in-xs) (v .held .in-ys) _ _ _ _ (omega arith)), v .steady)
 
 pub edges-spec : {M : Type 1} → statement M
 edges-spec =

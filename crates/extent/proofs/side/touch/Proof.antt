@@ -19,16 +19,18 @@ use Rattle.extent.proofs.side.touch.Statement.{statement}
 use Rattle.extent.proofs.side.touch.Tie as tie
 
 a : (s : tie.Start) → Is w64 (s .args .a) (bits (s .args .a)) (2 ^ 19)
-a s = known (s .pre .1 .1 .1 .0 .0) tt
+a s = known (s .pre .1 .1 .1 .a-small) tt
 
 b : (s : tie.Start) → Is w64 (s .args .b) (bits (s .args .b)) (2 ^ 19)
-b s = known (s .pre .1 .1 .1 .0 .1) tt
+b s = known (s .pre .1 .1 .1 .b-small) tt
 
 -- where the line through A stands, and how far out the pen reaches
-through : (s : tie.Start) → let r = s .args in Is w64 (r .a *ℤ r .g .ax +ℤ r .b *ℤ r .g .ay) (bits (r .a) ⊗ bits (r .g .ax) ⊕ bits (r .b) ⊗ bits (r .g .ay)) (2 ^ 38)
+through : (s : tie.Start) → let r = s .args in
+    Is w64 (r .a *ℤ r .g .ax +ℤ r .b *ℤ r .g .ay) (bits (r .a) ⊗ bits (r .g .ax) ⊕ bits (r .b) ⊗ bits (r .g .ay)) (2 ^ 38)
 through s = let n = s .pre .1 .1 .0 in add (mul (a s) (known (n .ax-small) tt) tt) (mul (b s) (known (n .ay-small) tt) tt) tt
 
-out : (c : tie.After-furthest) → let r = c .before .args in Is w64 (furthest (r .a) (r .b) (corners (r .n) (now (r .xs)) (now (r .ys)))) (bits (c .furthest .result)) (2 ^ 27)
+out : (c : tie.After-furthest) → let r = c .before .args in
+    Is w64 (furthest (r .a) (r .b) (corners (r .n) (now (r .xs)) (now (r .ys)))) (bits (c .furthest .result)) (2 ^ 27)
 out c =
     let s = c .before in
     let r = s .args in
@@ -41,6 +43,10 @@ line : (c : tie.After-furthest) → let r = c .before .args in
     (bits (pos 8) ⊗ bits (c .furthest .result) ⊕ (bits (r .a) ⊗ bits (r .g .ax) ⊕ bits (r .b) ⊗ bits (r .g .ay))) (2 ^ 30 + 2 ^ 38)
 line c = add (mul (num (pos 8) tt) (out c) tt) (through (c .before)) tt
 
+-- where both ends of A have been read
+abbrev reached : tie.After-struct-told2 → tie.After-furthest
+reached c = c .before .before .before .before
+
 furthest-requires : tie.Need-furthest-requires
 furthest-requires c κs = search needs
 
@@ -51,25 +57,29 @@ mul-narrow-2 : tie.Need-mul-narrow-2
 mul-narrow-2 c = let s = c .before .before .before in mul-fits (a s) (known (s .pre .1 .1 .0 .ax-small) tt) tt
 
 mul-narrow-3 : tie.Need-mul-narrow-3
-mul-narrow-3 c = let s = c .before .before .before .before .before in mul-fits (b s) (known (s .pre .1 .1 .0 .ay-small) tt) tt
+mul-narrow-3 c = let s = reached c .before in mul-fits (b s) (known (s .pre .1 .1 .0 .ay-small) tt) tt
 
 add-narrow : tie.Need-add-narrow
-add-narrow c = let s = c .before .before .before .before .before in let n = s .pre .1 .1 .0 in add-fits (mul (a s) (known (n .ax-small) tt) tt) (mul (b s) (known (n .ay-small) tt) tt) tt
+add-narrow c =
+    let s = reached c .before in
+    let n = s .pre .1 .1 .0 in
+    add-fits (mul (a s) (known (n .ax-small) tt) tt) (mul (b s) (known (n .ay-small) tt) tt) tt
 
 add-narrow-2 : tie.Need-add-narrow-2
-add-narrow-2 c = add-fits (mul (num (pos 8) tt) (out (c .before .before .before .before)) tt) (through (c .before .before .before .before .before)) tt
+add-narrow-2 c = add-fits (mul (num (pos 8) tt) (out (reached c)) tt) (through (reached c .before)) tt
 
 narrow-requires : tie.Need-narrow-requires
 narrow-requires c κs =
-    let s = c .before .before .before .before .before in
-    (s .pre .0, (record { a-small = bound (a s); b-small = bound (b s); c-small = abs-le (leb→le _ _ tt) (bound (line (c .before .before .before .before))) }, s .pre .1 .1 .1 .1))
+    let s = reached c .before in
+    (s .pre .0, (record { a-small = bound (a s); b-small = bound (b s); c-small = abs-le (leb→le _ _ tt) (bound (line (reached c))) }, s .pre .1 .1 .0 .low))
 
 returns : tie.Need-returns
 returns c =
-    let s = c .before .before .before .before .before .before in
+    let at-furthest = reached (c .before) in
+    let s = at-furthest .before in
     let e = c .narrow .ensures in
     let side : ℤ → ℤ → ℤ → Side = λ a b c. record { a = a; b = b; c = c } in
-    (e .0 ∙ ap (λ (e : Side). narrow (pos (s .args .row)) e (left (s .args .s))) (ap₃ side (a s .reads) (b s .reads) (line (c .before .before .before .before .before) .reads)), e .1)
+    (e .0 ∙ ap (λ (e : Side). narrow (pos (s .args .row)) e (left (s .args .s))) (ap₃ side (a s .reads) (b s .reads) (line at-furthest .reads)), e .1)
 
 pub touch-spec : {M : Type 1} → statement M
 touch-spec =

@@ -1,24 +1,35 @@
 -- The list is long enough, so that it is as the list says.
+use Prim.Native.Nat.{ℕ}
 use mathlib.Core.Path.{_≡_, refl, sym, _∙_, subst}
+use mathlib.Core.List.{List}
 use lib.ListN.{replicate}
-use Rattle.checks.specs.Answer.{Result}
-use Rattle.host.specs.Call.{runsCall}
-use Rattle.host.proofs.Outcomes.{Drawn, call-runs, call-enough}
 use borrow.Author.Needs.{needs}
+use Rattle.limits.specs.Sizes.{rasterMax}
+use Rattle.checks.specs.Answer.{Result}
+use Rattle.host.specs.Call.{runsWith, entriesVerdict}
+use Rattle.host.proofs.Outcomes.{Drawn, call-runs, call-enough}
 use Rattle.host.proofs.answer.many_runs.Statement.{statement}
 use Rattle.host.proofs.answer.many_runs.Tie as tie
 
--- what the row's answer says
-told : (c : tie.After-runs-for) → let a = c .before .before .before .args in Drawn (record { answer = c .runs-for .result; list = c .runs-for .last .1 .1 .1 .1 .1 .0 }) (a .runs .now) (runsCall (a .call) (a .path .now) (a .runs .now))
+-- where the runs have been drawn: the list, and what the answer says
+abbrev start : tie.After-runs-for → tie.Start
+start c = c .before .before .before
+
+abbrev list : tie.After-runs-for → List ℕ
+list c = c .runs-for .last .1 .1 .1 .1 .1 .0
+
+told : (c : tie.After-runs-for) → let a = start c .args in
+    Drawn (record { answer = c .runs-for .result; list = list c }) (a .runs .now) (runsWith (a .call) (entriesVerdict (a .call) (a .path .now)) (a .path .now) (a .runs .now))
 told c =
-    let a = c .before .before .before .args in
-    subst (λ (r : Result). Drawn r (a .runs .now) (runsCall (a .call) (a .path .now) (a .runs .now))) (sym (c .runs-for .ensures)) (call-runs (a .call) (a .path .now) (a .runs .now) (replicate 16384 0))
+    let a = start c .args in
+    subst (λ (r : Result ℕ). Drawn r (a .runs .now) (runsWith (a .call) (entriesVerdict (a .call) (a .path .now)) (a .path .now) (a .runs .now))) (sym (c .runs-for .ensures))
+    (call-runs (a .call) (a .path .now) (replicate rasterMax 0) (a .runs .now))
 
 -- a list for all runs is never too short
 enough : (c : tie.After-runs-for) → ¬ (c .runs-for .result .refusal ≡ 7)
 enough c =
-    let a = c .before .before .before .args in
-    subst (λ (r : Result). ¬ (r .answer .refusal ≡ 7)) (sym (c .runs-for .ensures)) (call-enough (a .call) (a .path .now) (a .runs .now) (replicate 16384 0) refl)
+    let a = start c .args in
+    subst (λ (r : Result ℕ). ¬ (r .answer .refusal ≡ 7)) (sym (c .runs-for .ensures)) (call-enough (a .call) (a .path .now) (replicate rasterMax 0) refl)
 
 slice-aggregate-runs-for : tie.Need-slice-aggregate-runs-for
 slice-aggregate-runs-for c = search needs
@@ -36,7 +47,10 @@ same-length : tie.Need-same-length
 same-length c = search needs
 
 returns : tie.Need-returns
-returns c = c .before .before .write .ensures ∙ told (c .before .before .before .before .before .before) .told (enough (c .before .before .before .before .before .before))
+returns c =
+    let written = c .before .before in
+    let drawn = written .before .before .before .before in
+    written .write .ensures ∙ told drawn .told (enough drawn)
 
 pub many-runs-spec : {M : Type 1} → statement M
 many-runs-spec =

@@ -1,24 +1,59 @@
 -- A length that no path has is refused; otherwise the coordinates are those of the bytes.
-use mathlib.Core.Path.{sym, ap, _∙_}
-use borrow.Author.Tests.{not-true, not-false}
-use Rattle.wire.specs.Read.{entriesOf}
-use Rattle.checks.specs.declared.Verdict.{Verdict}
-use Rattle.host.specs.Host.{bytesVerdict}
-use Rattle.host.specs.Call.{callWith}
-use Rattle.host.proofs.Verdicts.{bytes-refused, bytes-read}
-use Rattle.host.proofs.Outcomes.{call-refused}
+use Prim.Native.Nat.{ℕ, _*_, _%_}
+use mathlib.Core.Path.{_≡_, sym, ap, subst, _∙_}
+use mathlib.Core.Bool.{false, _&&_}
+use native.Mathlib.Omega.{arith}
+use lib.Dec.{eqb, leb}
+use lib.ListN.{length}
 use borrow.Author.Needs.{needs}
+use Rattle.limits.specs.Sizes.{entriesMax}
+use Rattle.limits.specs.Refusal.{number, path, refuse}
+use Rattle.limits.specs.declared.Verdict.{Verdict}
+use Rattle.limits.proofs.Verdicts.{unless-true, unless-refused}
+use Rattle.wire.specs.Read.{entriesOf}
+use Rattle.checks.specs.Answer.{answerOf}
+use Rattle.host.specs.Host.{coded}
+use Rattle.host.specs.Call.{Fit, callWith}
+use Rattle.host.proofs.Verdicts.{Read, bytes-refused, bytes-read}
+use Rattle.host.proofs.Outcomes.{refused-fit, call-refused}
 use Rattle.host.proofs.answer.of_bytes.Statement.{statement}
 use Rattle.host.proofs.answer.of_bytes.Tie as tie
 
-is-path-requires : tie.Need-is-path-requires
-is-path-requires c κs = search needs
+-- where the length has been checked
+abbrev start : tie.After-bytes-check → tie.Start
+start c = c .before .before .before
+
+-- where it is refused: the refusal is 2
+refusal : (c : tie.After-enum-told2) → let k = c .before .before in
+    (k .bytes-check .result ≡ refuse path 0) × ((eqb (length (start k .args .path .now) % 4) 0 && leb (length (start k .args .path .now)) (4 * entriesMax)) ≡ false)
+refusal c = unless-refused _ path (c .before .before .bytes-check .ensures) (c .enum-told2 .given .1)
+
+-- where it is passed: the bytes are a path
+read : (c : tie.After-enum-told) → let a = start (c .before .before) .args in Read (a .path .now) (a .call .columns) (a .call .rows) (a .call .row)
+read c =
+    let k = c .before .before in
+    let a = start k .args in
+    bytes-read (a .path .now) (a .call .columns) (a .call .rows) (a .call .row) (unless-true _ path (sym (k .bytes-check .ensures) ∙ c .enum-told .given .1))
+
+bytes-check-requires : tie.Need-bytes-check-requires
+bytes-check-requires c κs = search needs
+
+enum-told : tie.Need-enum-told
+enum-told c = search needs
+
+enum-told-2 : tie.Need-enum-told-2
+enum-told-2 c = search needs
+
+refused-requires : tie.Need-refused-requires
+refused-requires c κs = subst (λ (v : Verdict). Fit (answerOf v)) (sym (refusal c .0)) (refused-fit (number path) (omega arith))
 
 returns : tie.Need-returns
 returns c =
-    let a = c .before .before .before .before .args in
-    let v = bytesVerdict (a .path .now) (a .call .columns) (a .call .rows) (a .call .row) in
-    call-refused (a .call) v (entriesOf (a .path .now)) (a .bytes .now) (bytes-refused (a .path .now) (a .call .columns) (a .call .rows) (a .call .row) (sym (c .before .is-path .ensures) ∙ not-true _ (c .if1 .taken)))
+    let k = c .before .before .before in
+    let a = start k .args in
+    let r = refusal (c .before) in
+    ap (λ (n : ℕ). record { answer = n; bytes = a .bytes .now }) (c .refused .ensures ∙ ap (λ (v : Verdict). coded (answerOf v)) (r .0))
+    ∙ call-refused (a .call) _ (entriesOf (a .path .now)) (a .bytes .now) (bytes-refused (a .path .now) (a .call .columns) (a .call .rows) (a .call .row) (r .1))
 
 short-requires : tie.Need-short-requires
 short-requires c κs = search needs
@@ -28,27 +63,32 @@ same-length c = search needs
 
 returns-2 : tie.Need-returns-2
 returns-2 c =
-    let a = c .before .before .before .before .before .before .before .before .before .args in
-    let h = bytes-read (a .path .now) (a .call .columns) (a .call .rows) (a .call .row) (sym (c .before .before .before .before .before .before .is-path .ensures) ∙ not-false _ (c .before .before .before .before .before .if1 .left)) in
-    c .before .before .short .ensures ∙ ap (λ (v : Verdict). callWith (a .call) v (entriesOf (a .path .now)) (a .bytes .now)) (sym (h .0))
+    let drawn = c .before .before in
+    let passed = drawn .before .before .before in
+    let a = start (passed .before .before) .args in
+    drawn .short .ensures ∙ ap (λ (v : Verdict). callWith (a .call) v (entriesOf (a .path .now)) (a .bytes .now)) (sym (read passed .same))
 
 long-requires : tie.Need-long-requires
-long-requires c κs = let a = c .before .before .before .before .before .before .args in bytes-read (a .path .now) (a .call .columns) (a .call .rows) (a .call .row) (sym (c .before .before .before .is-path .ensures) ∙ not-false _ (c .before .before .if1 .left)) .1
+long-requires c κs = read (c .before .before) .short
 
 same-length-2 : tie.Need-same-length-2
 same-length-2 c = search needs
 
 returns-3 : tie.Need-returns-3
 returns-3 c =
-    let a = c .before .before .before .before .before .before .before .before .before .args in
-    let h = bytes-read (a .path .now) (a .call .columns) (a .call .rows) (a .call .row) (sym (c .before .before .before .before .before .before .is-path .ensures) ∙ not-false _ (c .before .before .before .before .before .if1 .left)) in
-    c .before .before .long .ensures ∙ ap (λ (v : Verdict). callWith (a .call) v (entriesOf (a .path .now)) (a .bytes .now)) (sym (h .0))
+    let drawn = c .before .before in
+    let passed = drawn .before .before .before in
+    let a = start (passed .before .before) .args in
+    drawn .long .ensures ∙ ap (λ (v : Verdict). callWith (a .call) v (entriesOf (a .path .now)) (a .bytes .now)) (sym (read passed .same))
 
 pub of-bytes-spec : {M : Type 1} → statement M
 of-bytes-spec =
     tie.close
     (tie.spec
-    is-path-requires
+    bytes-check-requires
+    enum-told
+    enum-told-2
+    refused-requires
     returns
     short-requires
     same-length

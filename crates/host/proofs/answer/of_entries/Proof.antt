@@ -1,10 +1,21 @@
 -- One of the two.
-use mathlib.Core.Path.{sym, ap, _∙_}
+use mathlib.Core.Path.{_≡_, sym, ap, _∙_}
 use mathlib.Core.Bool.{Bool, cond}
-use Rattle.host.specs.Call.{packedCall, runsCall}
 use borrow.Author.Needs.{needs}
+use Rattle.host.specs.Host.{Outcome}
+use Rattle.host.specs.Call.{runsWith, packedWith, entriesVerdict, entriesCall}
 use Rattle.host.proofs.answer.of_entries.Statement.{statement}
 use Rattle.host.proofs.answer.of_entries.Tie as tie
+
+-- what either way answers
+abbrev packed : tie.Start → Outcome
+packed s = let a = s .args in packedWith (a .call) (entriesVerdict (a .call) (a .path .now)) (a .path .now) (a .bytes .now)
+
+abbrev runs : tie.Start → Outcome
+runs s = let a = s .args in runsWith (a .call) (entriesVerdict (a .call) (a .path .now)) (a .path .now) (a .bytes .now)
+
+chosen : (s : tie.Start) {t : Bool} → s .args .call .packed ≡ t → cond t (packed s) (runs s) ≡ entriesCall (s .args .call) (s .args .path .now) (s .args .bytes .now)
+chosen s e = sym (ap (λ (t : Bool). cond t (packed s) (runs s)) e)
 
 entries-packed-requires : tie.Need-entries-packed-requires
 entries-packed-requires c κs = search needs
@@ -13,7 +24,10 @@ same-length : tie.Need-same-length
 same-length c = search needs
 
 returns : tie.Need-returns
-returns c = let a = c .before .before .before .before .before .before .args in c .before .before .entries-packed .ensures ∙ sym (ap (λ (t : Bool). cond t (packedCall (a .call) (a .path .now) (a .bytes .now)) (runsCall (a .call) (a .path .now) (a .bytes .now))) (c .before .before .before .before .if1 .taken))
+returns c =
+    let drawn = c .before .before in
+    let branch = drawn .before .before in
+    drawn .entries-packed .ensures ∙ chosen (branch .before .before) (branch .if1 .taken)
 
 entries-runs-requires : tie.Need-entries-runs-requires
 entries-runs-requires c κs = search needs
@@ -22,7 +36,10 @@ same-length-2 : tie.Need-same-length-2
 same-length-2 c = search needs
 
 returns-2 : tie.Need-returns-2
-returns-2 c = let a = c .before .before .before .before .before .before .args in c .before .before .entries-runs .ensures ∙ sym (ap (λ (t : Bool). cond t (packedCall (a .call) (a .path .now) (a .bytes .now)) (runsCall (a .call) (a .path .now) (a .bytes .now))) (c .before .before .before .before .if1 .left))
+returns-2 c =
+    let drawn = c .before .before in
+    let branch = drawn .before .before in
+    drawn .entries-runs .ensures ∙ chosen (branch .before .before) (branch .if1 .left)
 
 pub of-entries-spec : {M : Type 1} → statement M
 of-entries-spec =

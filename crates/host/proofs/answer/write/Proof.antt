@@ -1,34 +1,72 @@
 -- The host has no room for the runs, or they are written.
-use Prim.Native.Nat.{ℕ}
-use mathlib.Core.List.{List}
-use mathlib.Core.Path.{ap₂, _∙_}
-use Rattle.host.proofs.Outcomes.{written-full, written-all}
+use Prim.Native.Nat.{_/_}
+use mathlib.Core.Path.{sym, subst}
+use native.Mathlib.Omega.{arith}
+use lib.ListN.{length}
 use borrow.Author.Needs.{needs}
+use Rattle.limits.specs.Refusal.{number, room}
+use Rattle.limits.specs.declared.Verdict.{Verdict}
+use Rattle.checks.specs.Answer.{answerOf}
+use Rattle.checks.proofs.Verdicts.{room-refused}
+use Rattle.host.specs.Call.{Fit}
+use Rattle.host.proofs.Outcomes.{refused-fit, written-full, written-all}
 use Rattle.host.proofs.answer.write.Statement.{statement}
 use Rattle.host.proofs.answer.write.Tie as tie
 
+-- where the host's room has been checked
+abbrev start : tie.After-room-check → tie.Start
+start c = c .before .before .before
+
+room-check-requires : tie.Need-room-check-requires
+room-check-requires c κs = search needs
+
+enum-told : tie.Need-enum-told
+enum-told c = search needs
+
+enum-told-2 : tie.Need-enum-told-2
+enum-told-2 c = search needs
+
+refused-requires : tie.Need-refused-requires
+refused-requires c κs =
+    let k = c .before .before in
+    let a = start k .args in
+    let r = room-refused (a .a .count) (length (a .runs .now) / 4) (k .room-check .ensures) (c .enum-told2 .given .1) in
+    subst (λ (v : Verdict). Fit (answerOf v)) (sym (r .1)) (refused-fit (number room) (omega arith))
+
 returns : tie.Need-returns
-returns c = let a = c .before .before .before .args in written-full (a .a) (a .list .now) (a .runs .now) (c .if1 .taken)
+returns c =
+    let k = c .before .before .before in
+    let a = start k .args in
+    written-full (a .a) (a .list .now) (a .runs .now) (k .room-check .ensures) (c .before .enum-told2 .given .1) (c .refused .ensures)
 
 mul-encode : tie.Need-mul-encode
-mul-encode c = search needs
+mul-encode c = let s = start (c .before .before) in omega (arith, s .pre .count)
 
 encode-requires : tie.Need-encode-requires
 encode-requires c κs = search needs
 
 code-requires : tie.Need-code-requires
-code-requires c κs = search needs
+code-requires c κs = let passed = c .before .before .before .before in start (passed .before .before) .pre
 
 same-length : tie.Need-same-length
 same-length c = search needs
 
 returns-2 : tie.Need-returns-2
-returns-2 c = let a = c .before .before .before .before .before .before .before .before .args in ap₂ (λ (n : ℕ) (l : List ℕ). record { answer = n; bytes = l }) (c .code .ensures) (c .before .before .before .encode .ensures) ∙ written-all (a .a) (a .list .now) (a .runs .now) (c .before .before .before .before .before .if1 .left)
+returns-2 c =
+    let encoded = c .before .before .before in
+    let passed = encoded .before .before in
+    let k = passed .before .before in
+    let a = start k .args in
+    written-all (a .a) (a .list .now) (a .runs .now) (k .room-check .ensures) (passed .enum-told .given .1) (c .code .ensures) (encoded .encode .ensures)
 
 pub write-spec : {M : Type 1} → statement M
 write-spec =
     tie.close
     (tie.spec
+    room-check-requires
+    enum-told
+    enum-told-2
+    refused-requires
     returns
     mul-encode
     encode-requires

@@ -1,30 +1,33 @@
 -- The length is known before anything is written.
-use Prim.Native.Nat.{ℕ}
-use mathlib.Core.Path.{ap, _∙_}
-use mathlib.Core.Bool.{Bool}
-use native.Mathlib.Omega.{arith}
+use Prim.Native.Nat.{ℕ, _≤_}
+use mathlib.Core.Path.{_≡_, ap, _∙_}
 use lib.ListN.{length}
-use lib.IntN.{pos}
-use Rattle.plane.specs.Point.{corners}
-use Rattle.stroke.specs.Runs.{blackAt}
-use Rattle.stroke.specs.Sweep.{pathPoints}
-use Rattle.checks.proofs.Verdicts.{room-passed}
-use Rattle.packed.proofs.Drawn.{packed-fits, no-room}
 use borrow.Author.Needs.{needs}
+use Rattle.plane.specs.Point.{corners}
+use Rattle.checks.specs.Checks.{roomVerdict}
+use Rattle.checks.specs.Answer.{Offer, done}
+use Rattle.checks.proofs.Verdicts.{room-passed}
+use Rattle.checks.proofs.Given.{no-room, room-left}
+use Rattle.packed.specs.Packed.{packedLength, packedOffer}
 use Rattle.packed.proofs.draw.draw_packed.Statement.{statement}
 use Rattle.packed.proofs.draw.draw_packed.Tie as tie
-use Rattle.checks.proofs.done.Reads as done-reads
-use Rattle.checks.proofs.report.Reads as report-reads
-use Rattle.checks.proofs.room_check.Reads as room-check-reads
-use Rattle.packed.proofs.bytes.length_of.Reads as length-of-reads
-use Rattle.packed.proofs.draw.pack_row.Reads as pack-row-reads
 
--- the columns that the path blackens
-abbrev black : tie.Start → ℕ → Bool
-black c x = blackAt (corners (c .args .count) (c .args .xs .now) (c .args .ys .now)) (pathPoints (c .args .path .now)) (pos (c .args .row)) (pos x)
+-- where the room has been checked: what the call offers, and the verdict on the room
+abbrev start : tie.After-room-check → tie.Start
+start c = c .before .before .before
+
+abbrev offer : tie.After-room-check → Offer ℕ
+offer c = let a = start c .args in packedOffer (corners (a .count) (a .xs .now) (a .ys .now)) (a .path .now) (a .columns) (a .row) (a .bytes .now)
+
+verdict : (c : tie.After-room-check) → let a = start c .args in c .room-check .result ≡ roomVerdict (packedLength (a .columns)) (length (a .bytes .now))
+verdict c = c .room-check .ensures ∙ ap (λ (n : ℕ). roomVerdict n (length (start c .args .bytes .now))) (c .before .length-of .ensures)
+
+-- where that check is passed there is room
+room : (c : tie.After-enum-told) → let a = start (c .before .before) .args in packedLength (a .columns) ≤ length (a .bytes .now)
+room c = room-passed _ _ (verdict (c .before .before)) (c .enum-told .given .1)
 
 length-of-requires : tie.Need-length-of-requires
-length-of-requires c κs = search needs
+length-of-requires c κs = c .before .pre .size .few
 
 room-check-requires : tie.Need-room-check-requires
 room-check-requires c κs = search needs
@@ -39,10 +42,10 @@ report-requires : tie.Need-report-requires
 report-requires c κs = search needs
 
 returns : tie.Need-returns
-returns c = let a = c .before .before .before .before .before .before .args in no-room (black ((c .before .before .before .before .before .before))) (a .wide) (a .bytes .now) (c .before .before .before .before .length-of .ensures) (c .before .before .before .room-check .ensures) (c .before .enum-told2 .given .1) (c .report .ensures)
+returns c = let k = c .before .before .before in no-room (offer k) (verdict k) (c .before .enum-told2 .given .1) (c .report .ensures)
 
 pack-row-requires : tie.Need-pack-row-requires
-pack-row-requires c κs = let r = room-passed (c .before .before .before .before .length-of .result) (length (c .before .before .before .before .before .before .args .bytes .now)) (c .before .before .before .room-check .ensures) (c .before .enum-told .given .1) in (omega (arith, r, c .before .before .before .before .length-of .ensures), c .before .before .before .before .before .before .pre)
+pack-row-requires c κs = let passed = c .before in (room passed, start (passed .before .before) .pre)
 
 done-requires : tie.Need-done-requires
 done-requires c κs = search needs
@@ -52,9 +55,10 @@ same-length c = search needs
 
 returns-2 : tie.Need-returns-2
 returns-2 c =
-    let a = c .before .before .before .before .before .before .before .before .before .before .args in
-    let r = room-passed (c .before .before .before .before .before .before .before .before .length-of .result) (length (c .before .before .before .before .before .before .before .before .before .before .args .bytes .now)) (c .before .before .before .before .before .before .before .room-check .ensures) (c .before .before .before .before .before .enum-told .given .1) in
-    packed-fits (black ((c .before .before .before .before .before .before .before .before .before .before))) (a .wide) (a .bytes .now) (omega (arith, r, c .before .before .before .before .before .before .before .before .length-of .ensures)) (c .done .ensures ∙ ap (λ (n : ℕ). record { refusal = 0; place = 0; count = n }) (c .before .before .before .before .before .before .before .before .length-of .ensures)) (c .before .before .before .pack-row .ensures)
+    let written = c .before .before .before in
+    let passed = written .before .before in
+    let k = passed .before .before in
+    room-left (offer k) (room passed) (c .done .ensures ∙ ap done (k .before .length-of .ensures)) (written .pack-row .ensures)
 
 pub draw-packed-spec : {M : Type 1} → statement M
 draw-packed-spec =

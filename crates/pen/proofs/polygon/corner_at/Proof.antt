@@ -1,16 +1,13 @@
 -- The walk's first half is the right side, and its second half the same turned by half a turn.
-use mathlib.Core.Path.{_≡_, ap, ap₂, _∙_}
+use mathlib.Core.Path.{ap, ap₂, _∙_}
 use native.Mathlib.Omega.{arith}
 use borrow.Author.Needs.{needs}
 use Rattle.plane.specs.Point.{pt}
 use Rattle.pen.specs.Polygon.{turned}
-use Rattle.pen.proofs.Opposites.{opposite-fits, opposite, small-opposite}
+use Rattle.pen.proofs.Opposites.{i8-opposite-fits, i8-opposite, i8-opposite-small}
 use Rattle.pen.proofs.Walk.{right-half, left-half}
 use Rattle.pen.proofs.polygon.corner_at.Statement.{statement}
 use Rattle.pen.proofs.polygon.corner_at.Tie as tie
-use Rattle.pen.proofs.polygon.corner_at.Reads as reads
-use Rattle.pen.proofs.polygon.corner_at.Lts as lts
-use Rattle.pen.proofs.polygon.right_side.Reads as right-side-reads
 
 mul-half : tie.Need-mul-half
 mul-half c = search needs
@@ -27,17 +24,29 @@ returns c =
 right-side-requires-2 : tie.Need-right-side-requires-2
 right-side-requires-2 c κs = search needs
 
+-- where the corner of the right side is known, seen from each of its opposites
+abbrev known : tie.After-struct-told → tie.After-right-side2
+known c = c .before .before
+
+abbrev both-known : tie.After-struct-told2 → tie.After-right-side2
+both-known c = known (c .before .before)
+
 sub-t7 : tie.Need-sub-t7
-sub-t7 c = opposite-fits (c .before .before .right-side2 .ensures .1 .0)
+sub-t7 c = i8-opposite-fits (known c .right-side2 .ensures .1 .x-small)
 
 sub-t8 : tie.Need-sub-t8
-sub-t8 c = opposite-fits (c .before .before .before .before .right-side2 .ensures .1 .1)
+sub-t8 c = i8-opposite-fits (both-known c .right-side2 .ensures .1 .y-small)
 
 returns-2 : tie.Need-returns-2
 returns-2 c =
-    let s = c .before .before .before .before .before .before .before in
-    let r = c .before .before .before .before .right-side2 .ensures in
-    (ap₂ pt (opposite (r .1 .0)) (opposite (r .1 .1)) ∙ ap turned (r .0) ∙ left-half (s .args .q) (s .pre .0) (s .args .i) (omega arith), (small-opposite (r .1 .0), small-opposite (r .1 .1)))
+    let k = both-known c in
+    let s = k .before .before .before in
+    let r = k .right-side2 .ensures in
+    let x = r .1 .x-small in
+    let y = r .1 .y-small in (
+      ap₂ pt (i8-opposite x) (i8-opposite y) ∙ ap turned (r .0) ∙ left-half (s .args .q) (s .pre .0) (s .args .i) (omega arith),
+      record { x-small = i8-opposite-small x; y-small = i8-opposite-small y },
+    )
 
 pub corner-at-spec : {M : Type 1} → statement M
 corner-at-spec =

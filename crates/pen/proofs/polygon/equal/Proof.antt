@@ -2,19 +2,15 @@
 use Rattle.integers.proofs.Tests.{true-and, false-and}
 use Rattle.integers.proofs.Machine.{par, eqZ-at}
 use borrow.Author.Tests.{eq-eqb, ne-eqb}
-use mathlib.Core.Bool.{Bool, true, false, _&&_}
-use mathlib.Core.Path.{_≡_, refl, sym, subst, _∙_}
+use mathlib.Core.Path.{sym, _∙_}
 use Rattle.pen.proofs.polygon.equal.Statement.{statement}
 use Rattle.pen.proofs.polygon.equal.Tie as tie
-use Rattle.pen.proofs.polygon.equal.Reads as reads
-use Rattle.pen.proofs.polygon.equal.Lts as lts
 
 returns : tie.Need-returns
 returns c =
     let f = c .before .fits in
     eqZ-at (par (f .ay)) (par (f .by)) ∙ true-and _ _ (sym (eqZ-at (par (f .ax)) (par (f .bx))) ∙ eq-eqb _ _ (c .if1 .taken))
 
--- src/polygon.rt:61:1
 returns-2 : tie.Need-returns-2
 returns-2 c =
     let f = c .before .fits in

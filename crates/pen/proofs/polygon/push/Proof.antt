@@ -1,5 +1,5 @@
 -- The two answers are the two cases of the definition.
-use Rattle.pen.proofs.Laid.{skipped, added}
+use Rattle.pen.proofs.Laid.{pushed-skipped, pushed-added}
 use Rattle.plane.specs.Point.{pt, same}
 use Rattle.integers.proofs.Machine.{par}
 use mir.Syntax.{w8}
@@ -7,9 +7,6 @@ use mathlib.Core.Path.{_≡_, sym, ap₂, _∙_}
 use borrow.Author.Needs.{needs}
 use Rattle.pen.proofs.polygon.push.Statement.{statement}
 use Rattle.pen.proofs.polygon.push.Tie as tie
-use Rattle.pen.proofs.polygon.push.Reads as reads
-use Rattle.pen.proofs.polygon.push.Lts as lts
-use Rattle.pen.proofs.polygon.equal.Reads as equal-reads
 
 -- what `equal` answered, of the numbers themselves
 told : (c : tie.After-equal) → c .equal .result ≡ same (pt (c .before .args .ax) (c .before .args .ay)) (pt (c .before .args .bx) (c .before .args .by))
@@ -17,32 +14,26 @@ told c =
     let f = c .before .fits in
     c .equal .ensures ∙ ap₂ same (ap₂ pt (par {w = w8} (f .ax) .reads) (par {w = w8} (f .ay) .reads)) (ap₂ pt (par {w = w8} (f .bx) .reads) (par {w = w8} (f .by) .reads))
 
--- src/polygon.rt:72:8
 equal-requires : tie.Need-equal-requires
-equal-requires c κs = search needs
+equal-requires c κs = tt
 
--- src/polygon.rt:73:9
 returns : tie.Need-returns
-returns c = let a = c .before .before .args in skipped (a .p) (pt (a .ax) (a .ay)) (pt (a .bx) (a .by)) (sym (told (c .before)) ∙ c .if1 .taken)
+returns c = let a = c .before .before .args in pushed-skipped (a .p) (pt (a .ax) (a .ay)) (pt (a .bx) (a .by)) (sym (told (c .before)) ∙ c .if1 .taken)
 
--- src/polygon.rt:77:5
 element-set-from-ax : tie.Need-element-set-from-ax
 element-set-from-ax c = search needs
 
--- src/polygon.rt:78:5
 element-set-from-ay : tie.Need-element-set-from-ay
 element-set-from-ay c = search needs
 
--- src/polygon.rt:79:15
 add-r : tie.Need-add-r
 add-r c = search needs
 
--- src/polygon.rt:68:1
 returns-2 : tie.Need-returns-2
 returns-2 c =
     let f = c .before .before .fits in
     let a = c .before .before .args in
-    rw (par {w = w8} (f .ax) .reads, par {w = w8} (f .ay) .reads) (added (a .p) (pt (a .ax) (a .ay)) (pt (a .bx) (a .by)) (sym (told (c .before)) ∙ c .if1 .left))
+    rw (par {w = w8} (f .ax) .reads, par {w = w8} (f .ay) .reads) (pushed-added (a .p) (pt (a .ax) (a .ay)) (pt (a .bx) (a .by)) (sym (told (c .before)) ∙ c .if1 .left))
 
 pub push-spec : {M : Type 1} → statement M
 push-spec =

@@ -1,15 +1,13 @@
 -- Up the quarter the corner is read as it stands; on the way back its y has the other sign, which is no further out.
-use mathlib.Core.Path.{_≡_, ap₂, _∙_}
+use mathlib.Core.Path.{ap₂, _∙_}
 use Prim.Native.Nat.{_*_, _-_, _<_}
 use native.Mathlib.Omega.{arith}
 use borrow.Author.Needs.{needs}
 use Rattle.plane.specs.Point.{pt}
-use Rattle.pen.proofs.Opposites.{itself, opposite-fits, opposite, small, small-opposite}
+use Rattle.pen.proofs.Opposites.{i8-itself, i8-opposite-fits, i8-opposite, i8-small, i8-opposite-small}
 use Rattle.pen.proofs.Walk.{going-up, going-back}
 use Rattle.pen.proofs.polygon.right_side.Statement.{statement}
 use Rattle.pen.proofs.polygon.right_side.Tie as tie
-use Rattle.pen.proofs.polygon.right_side.Reads as reads
-use Rattle.pen.proofs.polygon.right_side.Lts as lts
 
 element-copy-out-t9 : tie.Need-element-copy-out-t9
 element-copy-out-t9 c = search needs
@@ -24,7 +22,7 @@ returns c =
     let h = c .before .before .if1 .taken in
     let x = p .0 .x-small (a .i) h in
     let y = p .0 .y-small (a .i) h in
-    (ap₂ pt (itself x) (itself y) ∙ going-up (a .t1) (p .0) (a .i) h, (small x, small y))
+    (ap₂ pt (i8-itself x) (i8-itself y) ∙ going-up (a .t1) (p .0) (a .i) h, record { x-small = i8-small x; y-small = i8-small y })
 
 mul-k : tie.Need-mul-k
 mul-k c = search needs
@@ -42,7 +40,7 @@ element-copy-out-t20 : tie.Need-element-copy-out-t20
 element-copy-out-t20 c = search needs
 
 sub-t21 : tie.Need-sub-t21
-sub-t21 c = let s = c .before .before .before in opposite-fits (s .pre .0 .y-small (2 * s .args .t1 .count - 1 - s .args .i) (omega (arith, s .pre .1)))
+sub-t21 c = let s = c .before .before .before in i8-opposite-fits (s .pre .0 .y-small (2 * s .args .t1 .count - 1 - s .args .i) (omega (arith, s .pre .1)))
 
 returns-2 : tie.Need-returns-2
 returns-2 c =
@@ -52,7 +50,7 @@ returns-2 c =
     let h : k < n = omega (arith, s .pre .1) in
     let x = s .pre .0 .x-small k h in
     let y = s .pre .0 .y-small k h in
-    (ap₂ pt (itself x) (opposite y) ∙ going-back (s .args .t1) (s .pre .0) (s .args .i) k h (omega (arith, s .pre .1)), (small x, small-opposite y))
+    (ap₂ pt (i8-itself x) (i8-opposite y) ∙ going-back (s .args .t1) (s .pre .0) (s .args .i) k h (omega (arith, s .pre .1)), record { x-small = i8-small x; y-small = i8-opposite-small y })
 
 pub right-side-spec : {M : Type 1} → statement M
 right-side-spec =

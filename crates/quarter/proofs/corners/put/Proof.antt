@@ -10,8 +10,6 @@ use Rattle.quarter.specs.Held.{stored, putOut}
 use borrow.Author.Needs.{needs}
 use Rattle.quarter.proofs.corners.put.Statement.{statement}
 use Rattle.quarter.proofs.corners.put.Tie as tie
-use Rattle.quarter.proofs.corners.put.Reads as reads
-use Rattle.quarter.proofs.corners.put.Lts as lts
 
 module _ (q : Quarter) (a b : ℤ) where
   kept : (d : ℕ) → 0 < d → q ≡ putOut d q a b
@@ -22,35 +20,27 @@ module _ (q : Quarter) (a b : ℤ) where
   put-out zero h = refl
   put-out (suc d) h = absurd (omega (arith, h))
 
--- src/corners.rt:65:9
 returns : tie.Need-returns
 returns c = kept _ _ _ _ (c .if1 .taken)
 
--- src/corners.rt:69:14
 cast-r : tie.Need-cast-r
 cast-r c = search needs
 
--- src/corners.rt:69:5
 element-set-from-r : tie.Need-element-set-from-r
 element-set-from-r c = search needs
 
--- src/corners.rt:70:16
 cast-r-2 : tie.Need-cast-r-2
 cast-r-2 c = search needs
 
--- src/corners.rt:70:14
 sub-r : tie.Need-sub-r
 sub-r c = sub-fits (num (pos 0) tt) (of-nat (c .before .args .y) (c .before .pre .1 .1) tt) tt
 
--- src/corners.rt:70:5
 element-set-from-r-2 : tie.Need-element-set-from-r-2
 element-set-from-r-2 c = search needs
 
--- src/corners.rt:71:15
 add-r : tie.Need-add-r
 add-r c = search needs
 
--- src/corners.rt:60:1
 returns-2 : tie.Need-returns-2
 returns-2 c =
     let s = c .before in

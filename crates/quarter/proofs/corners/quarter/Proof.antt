@@ -6,6 +6,7 @@ use Rattle.quarter.specs.Held.{front, state, Room, Stepped, stored, putO
 use Rattle.quarter.specs.Moment.{Moment, start, puts, cuts, total, Cuttable, Ready}
 use Rattle.quarter.specs.Answer.{quarterOf}
 use Rattle.quarter.specs.Cutting.{Corner, State, first, amount, act, step, stepAt, quarter}
+use Rattle.limits.specs.Sizes.{quarterMax}
 use Rattle.setting.specs.Setting.{Taken}
 use Rattle.quarter.specs.declared.Edge.{Edge}
 use Rattle.quarter.specs.declared.Quarter.{Quarter}
@@ -19,13 +20,10 @@ use mathlib.Core.Path.{_≡_, refl, sym, ap, subst, _∙_}
 use Prim.Native.Nat.{ℕ, zero, suc, _+_, _-_, _≤_, _<_}
 use Rattle.quarter.proofs.corners.quarter.Statement.{statement}
 use Rattle.quarter.proofs.corners.quarter.Tie as tie
-use Rattle.quarter.proofs.corners.quarter.Reads as reads
-use Rattle.quarter.proofs.corners.quarter.Lts as lts
-use Rattle.quarter.proofs.corners.begin.Reads as begin-reads
-use Rattle.quarter.proofs.corners.none.Reads as none-reads
-use Rattle.quarter.proofs.corners.put.Reads as put-reads
-use Rattle.quarter.proofs.cut.amount.Reads as amount-reads
-use Rattle.quarter.proofs.cut.step.Reads as step-reads
+
+-- how many places the stack of edges has
+abbrev places : ℕ
+places = quarterMax + 1
 
 -- the edges after the corner are those from the stack's top to the array's end
 abbrev at : Work → List Edge → ℕ → State
@@ -36,45 +34,47 @@ top-edge after top = getD after top (record { u = 0; v = 0; c = 0; l1 = 0; l2 = 
 
 -- the corners put out so far are in the list, and the state is the steps' at that moment
 record Held (σ : Setting) (t : Work) (after : List Edge) (top : ℕ) (q : Quarter) : Type 0 where
-  long : length after ≡ 34
-  high : top ≤ 34
+  taken : Taken σ
+  long : length after ≡ places
+  high : top ≤ places
   out : List Corner
   moment : Moment σ out (at t after top)
   list : q ≡ quarterOf out
 
+-- ---- the first moment
 begun : (σ : Setting) (t : Work) → state t [] ≡ first σ → t .more ≡ 1 → record { x = t .x; y = t .y; before = t .before; after = t .last ∷ [] } ≡ first σ
-begun σ t e m = sym (ap (λ (k : ℕ). record { x = t .x; y = t .y; before = t .before; after = front k (t .new) (t .last) [] }) m) ∙ e
+begun σ t e m =
+    sym (ap (λ (k : ℕ). record { x = t .x; y = t .y; before = t .before; after = front k (t .new) (t .last) [] }) m)
+    ∙ e
 
-abbrev Inv-loop : tie.InvT-loop
-Inv-loop s t₀ after₀ top₀ q₀ t after top q = Taken s × Held s t after top q
-
-abbrev μ-loop : tie.MeasureT-loop
-μ-loop s t₀ after₀ top₀ q₀ t after top q = total (at t after top)
-
-module _ {σ : Setting} (τ : Taken σ) {t : Work} {after : List Edge} {top : ℕ} {q : Quarter} (h : Held σ t after top q) where
-  few : length (h .out) + (34 - top) ≤ 33
-  few = omega (arith, at-most-33 σ τ (h .out) (at t after top) (h .moment), length-drop top after, h .long)
+-- ---- what holds at a moment, and what one round makes of it
+module _ {σ : Setting} {t : Work} {after : List Edge} {top : ℕ} {q : Quarter} (h : Held σ t after top q) where
+  few : length (h .out) + (places - top) ≤ quarterMax
+  few = omega (arith, at-most-33 σ (h .taken) (h .out) (at t after top) (h .moment), length-drop top after, h .long)
 
   -- there is a place below the top, so that an edge may be stored there
   low : 1 ≤ top
   low = omega (arith, few)
 
-  ended : 34 ≤ top → q ≡ quarterOf (quarter σ)
-  ended l = h .list ∙ ap quarterOf (ends-with-quarter σ τ (h .out) (at t after top) (h .moment) (drop-of-length-le after {i = top} (omega (arith, h .long))))
+  -- where no edge is left, the corners put out are the quarter
+  ended : places ≤ top → q ≡ quarterOf (quarter σ)
+  ended l =
+      let none = drop-of-length-le after {i = top} (omega (arith, h .long)) in
+      h .list ∙ ap quarterOf (ends-with-quarter σ (h .taken) (h .out) (at t after top) (h .moment) none)
 
-  module _ (l : top < 34) where
+  module _ (l : top < places) where
     inside : top < length after
     inside = omega (arith, h .long)
 
     ready : Ready σ (at t after top) (top-edge after top)
-    ready = nothing-below-zero σ τ (h .out) (at t after top) (h .moment) (top-edge after top) (drop (top + 1) after) (drop-top after top _ inside)
+    ready = nothing-below-zero σ (h .taken) (h .out) (at t after top) (h .moment) (top-edge after top) (drop (top + 1) after) (drop-top after top _ inside)
 
     -- there is a place in the list while an edge is left
-    place : length (h .out) < 33
+    place : length (h .out) < quarterMax
     place = omega (arith, few)
 
-    place-left : q .count < 33
-    place-left = subst (λ (p : Quarter). p .count < 33) (sym (h .list)) place
+    place-left : q .count < quarterMax
+    place-left = subst (λ (p : Quarter). p .count < quarterMax) (sym (h .list)) place
 
     module _ {d : ℕ} (e : d ≡ amount σ (t .before) (top-edge after top)) where
       room : Room t (top-edge after top) d
@@ -88,32 +88,39 @@ module _ {σ : Setting} (τ : Taken σ) {t : Work} {after : List Edge} {top : �
       }
 
       module _ {n : Work} (s : Stepped σ t (top-edge after top) d n) where
-        abbrev next : State
-        next = at n (set (set after top (n .last)) (top - 1) (n .new)) (top + 1 - n .more)
+        abbrev stack : List Edge
+        stack = set (set after top (n .last)) (top - 1) (n .new)
 
+        abbrev next : State
+        next = at n stack (top + 1 - n .more)
+
+        -- what the code does to its stack is the round of the definition
         stepped : step σ (at t after top) ≡ outcome d next
         stepped =
+            let rest = drop (top + 1) after in
             ap (λ (es : List Edge). stepAt es σ (t .x) (t .y) (t .before)) (drop-top after top _ inside)
-            ∙ ap (λ (k : ℕ). act k σ (t .x) (t .y) (t .before) (top-edge after top) (drop (top + 1) after)) (sym e)
-            ∙ s .is (drop (top + 1) after)
-            ∙ ap (λ (es : List Edge). outcome d (record { x = n .x; y = n .y; before = n .before; after = es })) (sym (drop-front after top (n .new) (n .last) (n .more) (s .few) low inside))
+            ∙ ap (λ (k : ℕ). act k σ (t .x) (t .y) (t .before) (top-edge after top) rest) (sym e)
+            ∙ s .is rest
+            ∙ ap (λ (es : List Edge). outcome d (record { x = n .x; y = n .y; before = n .before; after = es }))
+            (sym (drop-front after top (n .new) (n .last) (n .more) (s .few) low inside))
 
         falls : total next < total (at t after top)
         falls = go d stepped
           where
             go : (d : ℕ) → step σ (at t after top) ≡ outcome d next → total next < total (at t after top)
-            go zero w = steps-fall σ τ (h .out) (at t after top) (h .moment) .0 next w
-            go (suc d) w = steps-fall σ τ (h .out) (at t after top) (h .moment) .1 next w
+            go zero w = steps-fall σ (h .taken) (h .out) (at t after top) (h .moment) .0 next w
+            go (suc d) w = steps-fall σ (h .taken) (h .out) (at t after top) (h .moment) .1 next w
 
-        again : {q′ : Quarter} → q′ ≡ putOut d q (pos (t .x)) (negℤ (pos (t .y))) → Held σ n (set (set after top (n .last)) (top - 1) (n .new)) (top + 1 - n .more) q′
+        again : {q′ : Quarter} → q′ ≡ putOut d q (pos (t .x)) (negℤ (pos (t .y))) → Held σ n stack (top + 1 - n .more) q′
         again {q′} k = go d stepped k
           where
-            long′ : length (set (set after top (n .last)) (top - 1) (n .new)) ≡ 34
+            long′ : length stack ≡ places
             long′ = length-set (set after top (n .last)) (top - 1) (n .new) ∙ length-set after top (n .last) ∙ h .long
 
             go : (d : ℕ) → step σ (at t after top) ≡ outcome d next → q′ ≡ putOut d q (pos (t .x)) (negℤ (pos (t .y))) →
-                Held σ n (set (set after top (n .last)) (top - 1) (n .new)) (top + 1 - n .more) q′
+                Held σ n stack (top + 1 - n .more) q′
             go zero w k = record {
+              taken = h .taken;
               long = long′;
               high = omega arith;
               out = h .out ++ (record { x = t .x; y = t .y } ∷ []);
@@ -121,79 +128,105 @@ module _ {σ : Setting} (τ : Taken σ) {t : Work} {after : List Edge} {top : �
               list = k ∙ ap (λ (p : Quarter). stored p (pos (t .x)) (negℤ (pos (t .y)))) (h .list)
                   ∙ stored-quarter (h .out) (record { x = t .x; y = t .y }) place;
             }
-            go (suc d) w k = record { long = long′; high = omega arith; out = h .out; moment = cuts (h .moment) w; list = k ∙ h .list }
+            go (suc d) w k = record { taken = h .taken; long = long′; high = omega arith; out = h .out; moment = cuts (h .moment) w; list = k ∙ h .list }
 
--- src/corners.rt:81:9
+-- ---- the loop and its places
+abbrev Inv-loop : tie.InvT-loop
+Inv-loop s t₀ after₀ top₀ q₀ t after top q = Held s t after top q
+
+abbrev μ-loop : tie.MeasureT-loop
+μ-loop s t₀ after₀ top₀ q₀ t after top q = total (at t after top)
+
+-- the loop's test, seen from the step and from the stores after it: an edge is left, and the moment is held
+abbrev tested : tie.After-step Inv-loop μ-loop → tie.In-loop Inv-loop μ-loop
+tested c = c .before .before .before .before
+
+abbrev storing : tie.After-new Inv-loop μ-loop → tie.In-loop Inv-loop μ-loop
+storing c = tested (c .before .before)
+
 begin-requires : tie.Need-begin-requires Inv-loop μ-loop
 begin-requires c κs = c .pre
 
--- src/corners.rt:85:9
 none-requires : tie.Need-none-requires Inv-loop μ-loop
 none-requires c κs = tt
 
--- src/corners.rt:86:5
 loop-holds : tie.Need-loop-holds Inv-loop μ-loop
-loop-holds c = let b = c .before .before .begin .ensures in (c .before .before .before .pre, record { long = refl; high = omega arith; out = []; moment = subst (Moment (c .before .before .before .args .s) []) (sym (begun _ _ (b .0) (b .1))) start; list = c .none .ensures })
+loop-holds c =
+    let begin = c .before .before in
+    let s = begin .before in
+    let b = begin .begin .ensures in
+    record {
+      taken = s .pre;
+      long = refl;
+      high = omega arith;
+      out = [];
+      moment = subst (Moment (s .args .s) []) (sym (begun _ _ (b .0) (b .1))) start;
+      list = c .none .ensures;
+    }
 
--- src/corners.rt:87:17
 mul-r : tie.Need-mul-r Inv-loop μ-loop
 mul-r c = record { fits = omega (arith, c .loop-test .taken) }
 
--- src/corners.rt:87:17
 array-copy-out-r : tie.Need-array-copy-out-r Inv-loop μ-loop
 array-copy-out-r c = c .loop-test .taken
 
--- src/corners.rt:88:13
 amount-requires : tie.Need-amount-requires Inv-loop μ-loop
-amount-requires c κs = let i = c .before .before .loop .inv in let r = ready (i .0) (i .1) (c .before .loop-test .taken) in (i .0, (r .before, r .after))
+amount-requires c κs =
+    let test = c .before in
+    let i = test .before .loop .inv in
+    let r = ready i (test .loop-test .taken) in
+    (i .taken, (r .before, r .after))
 
--- src/corners.rt:89:9
 put-requires : tie.Need-put-requires Inv-loop μ-loop
-put-requires c κs = let i = c .before .before .before .loop .inv in let l = c .before .before .loop-test .taken in let r = ready (i .0) (i .1) l in (place-left (i .0) (i .1) l, (r .x-small, r .y-small))
+put-requires c κs =
+    let test = c .before .before in
+    let i = test .before .loop .inv in
+    let r = ready i (test .loop-test .taken) in
+    (place-left i (test .loop-test .taken), (r .x-small, r .y-small))
 
--- src/corners.rt:90:9
 step-requires : tie.Need-step-requires Inv-loop μ-loop
-step-requires c κs = let i = c .before .before .before .before .loop .inv in (i .0, room (i .0) (i .1) (c .before .before .before .loop-test .taken) (c .before .amount .ensures))
+step-requires c κs =
+    let test = c .before .before .before in
+    let i = test .before .loop .inv in
+    (i .taken, room i (test .loop-test .taken) (c .before .amount .ensures))
 
--- src/corners.rt:93:9
 mul-after : tie.Need-mul-after Inv-loop μ-loop
-mul-after c = record { fits = omega (arith, c .before .before .before .before .before .before .loop-test .taken) }
+mul-after c = record { fits = omega (arith, storing c .loop-test .taken) }
 
--- src/corners.rt:93:9
 array-set-from-after : tie.Need-array-set-from-after Inv-loop μ-loop
-array-set-from-after c = c .before .before .before .before .before .before .loop-test .taken
+array-set-from-after c = storing c .loop-test .taken
 
--- src/corners.rt:94:15
 sub-after : tie.Need-sub-after Inv-loop μ-loop
-sub-after c = let i = c .before .before .before .before .before .before .before .loop .inv in low (i .0) (i .1)
+sub-after c = low (storing c .before .loop .inv)
 
--- src/corners.rt:94:9
 mul-after-2 : tie.Need-mul-after-2 Inv-loop μ-loop
-mul-after-2 c = record { fits = omega (arith, c .before .before .before .before .before .before .loop-test .taken) }
+mul-after-2 c = record { fits = omega (arith, storing c .loop-test .taken) }
 
--- src/corners.rt:94:9
 array-set-from-after-2 : tie.Need-array-set-from-after-2 Inv-loop μ-loop
-array-set-from-after-2 c = omega (arith, c .before .before .before .before .before .before .loop-test .taken)
+array-set-from-after-2 c = omega (arith, storing c .loop-test .taken)
 
--- src/corners.rt:95:15
 add-top : tie.Need-add-top Inv-loop μ-loop
-add-top c = record { fits = omega (arith, c .before .before .before .before .before .before .loop-test .taken) }
+add-top c = record { fits = omega (arith, storing c .loop-test .taken) }
 
--- src/corners.rt:95:15
 sub-top : tie.Need-sub-top Inv-loop μ-loop
-sub-top c = let i = c .before .before .before .before .before .before .before .before .loop .inv in omega (arith, low (i .0) (i .1), c .before .before .before .step .ensures .few)
+sub-top c =
+    let stepped = c .before .before .before in
+    omega (arith, low (tested stepped .before .loop .inv), stepped .step .ensures .few)
 
--- src/corners.rt:86:5
 loop-less : tie.Need-loop-less Inv-loop μ-loop
-loop-less c = let i = c .before .before .before .before .before .before .before .before .loop .inv in falls (i .0) (i .1) (c .before .before .before .before .before .before .before .loop-test .taken) (c .before .before .before .before .before .amount .ensures) (c .before .before .before .step .ensures)
+loop-less c =
+    let stepped = c .before .before .before in
+    let test = tested stepped in
+    falls (test .before .loop .inv) (test .loop-test .taken) (stepped .before .before .amount .ensures) (stepped .step .ensures)
 
--- src/corners.rt:86:5
 loop-again : tie.Need-loop-again Inv-loop μ-loop
-loop-again c = let i = c .before .before .before .before .before .before .before .before .loop .inv in (i .0, again (i .0) (i .1) (c .before .before .before .before .before .before .before .loop-test .taken) (c .before .before .before .before .before .amount .ensures) (c .before .before .before .step .ensures) (c .before .before .before .before .put .ensures))
+loop-again c =
+    let stepped = c .before .before .before in
+    let test = tested stepped in
+    again (test .before .loop .inv) (test .loop-test .taken) (stepped .before .before .amount .ensures) (stepped .step .ensures) (stepped .before .put .ensures)
 
--- src/corners.rt:77:1
 returns : tie.Need-returns Inv-loop μ-loop
-returns c = let i = c .before .loop .inv in ended (i .0) (i .1) (c .loop-test .left)
+returns c = ended (c .before .loop .inv) (c .loop-test .left)
 
 pub quarter-spec : {M : Type 1} → statement M
 quarter-spec =

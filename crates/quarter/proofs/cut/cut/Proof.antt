@@ -1,71 +1,74 @@
 -- Which edge is used up goes by two tests of equality, as in the definition.
-use Rattle.quarter.specs.Cutting.{size, cut, cutBy}
+use Prim.Native.Nat.{ℕ}
+use Rattle.setting.specs.declared.Setting.{Setting}
 use Rattle.quarter.specs.declared.Edge.{Edge}
+use Rattle.quarter.specs.declared.Work.{Work}
+use Rattle.quarter.specs.Cutting.{size, cut, cutBy}
+use Rattle.quarter.specs.Held.{Leads}
 use borrow.Author.Tests.{eq-eqb, ne-eqb}
 use lib.Dec.{eqb}
-use mathlib.Core.List.{List}
-use mathlib.Core.Bool.{Bool, true, false}
+use mathlib.Core.Bool.{Bool}
 use mathlib.Core.Path.{_≡_, ap₂, sym, _∙_}
 use borrow.Author.Needs.{needs}
 use Rattle.quarter.proofs.cut.cut.Statement.{statement}
 use Rattle.quarter.proofs.cut.cut.Tie as tie
-use Rattle.quarter.proofs.cut.cut.Reads as reads
-use Rattle.quarter.proofs.cut.cut.Lts as lts
-use Rattle.quarter.proofs.cut.cut_both.Reads as cut-both-reads
-use Rattle.quarter.proofs.cut.cut_left.Reads as cut-left-reads
-use Rattle.quarter.proofs.cut.cut_new.Reads as cut-new-reads
-use Rattle.quarter.proofs.cut.cut_right.Reads as cut-right-reads
 
-is : (c : tie.Start) (rest : List Edge) {bl br : Bool} → eqb (c .args .d) (size (c .args .t .before)) ≡ bl → eqb (c .args .d) (size (c .args .r)) ≡ br →
-    cutBy bl br (c .args .s) (c .args .t .x) (c .args .t .y) (c .args .d) (c .args .t .before) (c .args .r) rest
-    ≡ cut (c .args .s) (c .args .t .x) (c .args .t .y) (c .args .d) (c .args .t .before) (c .args .r) rest
-is c rest e f =
-    let a = c .args in
-    sym (ap₂ (λ (bl br : Bool). cutBy bl br (a .s) (a .t .x) (a .t .y) (a .d) (a .t .before) (a .r) rest) e f)
+-- the answers of the two tests tell which of the four cuts is the definition's
+chosen : (σ : Setting) (t : Work) (R : Edge) (d : ℕ) {bl br : Bool} {n : Work} → eqb d (size (t .before)) ≡ bl → eqb d (size R) ≡ br →
+    Leads n (cutBy bl br σ (t .x) (t .y) d (t .before) R) → Leads n (cut σ (t .x) (t .y) d (t .before) R)
+chosen σ t R d e f n = record {
+  few = n .few;
+  is = λ rest. n .is rest ∙ sym (ap₂ (λ (bl br : Bool). cutBy bl br σ (t .x) (t .y) d (t .before) R rest) e f);
+}
 
--- src/cut.rt:161:13
+-- the function's start, seen from the first test
+abbrev start : tie.After-struct-known → tie.Start
+start c = c .before .before
+
 add-if1 : tie.Need-add-if1
 add-if1 c = search needs
 
--- src/cut.rt:162:17
 add-if2 : tie.Need-add-if2
 add-if2 c = search needs
 
--- src/cut.rt:163:13
 cut-both-requires : tie.Need-cut-both-requires
-cut-both-requires c κs = search needs
+cut-both-requires c κs = start (c .before .before .before) .pre .1
 
--- src/cut.rt:163:13
 returns : tie.Need-returns
-returns c = let s = c .before .before .before .before .before .before in let n = c .cut-both .ensures in record { few = n .few; is = λ rest. n .is rest ∙ is s rest (eq-eqb _ _ (c .before .before .before .if1 .taken)) (eq-eqb _ _ (c .before .if2 .taken)) }
+returns c =
+    let all-of-l = c .before .before .before in
+    let a = start (all-of-l .before) .args in
+    chosen (a .s) (a .t) (a .r) (a .d) (eq-eqb _ _ (all-of-l .if1 .taken)) (eq-eqb _ _ (c .before .if2 .taken)) (c .cut-both .ensures)
 
--- src/cut.rt:165:9
 cut-left-requires : tie.Need-cut-left-requires
-cut-left-requires c κs = search needs
+cut-left-requires c κs = start (c .before .before .before) .pre .1
 
--- src/cut.rt:165:9
 returns-2 : tie.Need-returns-2
-returns-2 c = let s = c .before .before .before .before .before .before in let n = c .cut-left .ensures in record { few = n .few; is = λ rest. n .is rest ∙ is s rest (eq-eqb _ _ (c .before .before .before .if1 .taken)) (ne-eqb _ _ (c .before .if2 .left)) }
+returns-2 c =
+    let all-of-l = c .before .before .before in
+    let a = start (all-of-l .before) .args in
+    chosen (a .s) (a .t) (a .r) (a .d) (eq-eqb _ _ (all-of-l .if1 .taken)) (ne-eqb _ _ (c .before .if2 .left)) (c .cut-left .ensures)
 
--- src/cut.rt:167:13
 add-if3 : tie.Need-add-if3
 add-if3 c = search needs
 
--- src/cut.rt:168:9
 cut-right-requires : tie.Need-cut-right-requires
-cut-right-requires c κs = search needs
+cut-right-requires c κs = start (c .before .before .before) .pre .1
 
--- src/cut.rt:168:9
 returns-3 : tie.Need-returns-3
-returns-3 c = let s = c .before .before .before .before .before .before in let n = c .cut-right .ensures in record { few = n .few; is = λ rest. n .is rest ∙ is s rest (ne-eqb _ _ (c .before .before .before .if1 .left)) (eq-eqb _ _ (c .before .if3 .taken)) }
+returns-3 c =
+    let some-of-l = c .before .before .before in
+    let a = start (some-of-l .before) .args in
+    chosen (a .s) (a .t) (a .r) (a .d) (ne-eqb _ _ (some-of-l .if1 .left)) (eq-eqb _ _ (c .before .if3 .taken)) (c .cut-right .ensures)
 
--- src/cut.rt:170:5
 cut-new-requires : tie.Need-cut-new-requires
-cut-new-requires c κs = search needs
+cut-new-requires c κs = start (c .before .before .before) .pre
 
--- src/cut.rt:156:1
 returns-4 : tie.Need-returns-4
-returns-4 c = let s = c .before .before .before .before .before .before in let n = c .cut-new .ensures in record { few = n .few; is = λ rest. n .is rest ∙ is s rest (ne-eqb _ _ (c .before .before .before .if1 .left)) (ne-eqb _ _ (c .before .if3 .left)) }
+returns-4 c =
+    let some-of-l = c .before .before .before in
+    let a = start (some-of-l .before) .args in
+    chosen (a .s) (a .t) (a .r) (a .d) (ne-eqb _ _ (some-of-l .if1 .left)) (ne-eqb _ _ (c .before .if3 .left)) (c .cut-new .ensures)
 
 pub cut-spec : {M : Type 1} → statement M
 cut-spec =

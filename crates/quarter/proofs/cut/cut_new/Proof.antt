@@ -1,63 +1,66 @@
 -- The new edge and what is left of r take its place.
 use Prim.Native.Nat.{ℕ, _*_, _≤_}
-use Rattle.quarter.proofs.Most.{fit}
+use Rattle.quarter.proofs.Most.{fit, summed}
 use native.Mathlib.Omega.{arith}
 use native.Mathlib.Nat.{mul-le-mul, add-le-add, le-trans}
-use mathlib.Core.Path.{_≡_, sym, subst}
+use mathlib.Core.Path.{sym, subst}
 use Rattle.quarter.proofs.Cuts.{retained-le}
 use borrow.Author.Needs.{needs}
 use Rattle.quarter.proofs.cut.cut_new.Statement.{statement}
 use Rattle.quarter.proofs.cut.cut_new.Tie as tie
-use Rattle.quarter.proofs.cut.cut_new.Reads as reads
-use Rattle.quarter.proofs.cut.cut_new.Lts as lts
-use Rattle.quarter.proofs.cut.edge_of.Reads as edge-of-reads
-use Rattle.quarter.proofs.cut.retained.Reads as retained-reads
-use Rattle.quarter.proofs.cut.shorter_end.Reads as shorter-end-reads
-use Rattle.quarter.proofs.cut.shorter_start.Reads as shorter-start-reads
 
 -- d is at most l's second count, and both are small
 upwards : (c : tie.Start) → c .args .d * c .args .t .before .v ≤ 2048
 upwards c = let p = c .pre .1 in mul-le-mul (le-trans (p .cuttable .left) (p .before .l2-small)) (p .before .v-small)
 
--- src/cut.rt:140:19
+-- the function's start, seen from where the new edge and its retained point are known, and from where the corner moves up
+abbrev at-edge : tie.After-edge-of → tie.Start
+at-edge c = c .before .before .before .before
+
+abbrev at-retained : tie.After-retained → tie.Start
+at-retained c = at-edge (c .before)
+
+abbrev at-corner : tie.After-struct-known4 → tie.Start
+at-corner c = at-retained (c .before .before)
+
 mul-x : tie.Need-mul-x
 mul-x c = search needs
 
--- src/cut.rt:140:13
 sub-x : tie.Need-sub-x
 sub-x c = search needs
 
--- src/cut.rt:141:9
 edge-of-requires : tie.Need-edge-of-requires
 edge-of-requires c κs = search needs
 
--- src/cut.rt:142:9
 retained-requires : tie.Need-retained-requires
-retained-requires c κs = let p = c .before .before .before .before .pre in rw (c .edge-of .ensures) (p .0, ((omega (arith, p .1 .rightward), add-le-add (p .1 .before .u-small) (p .1 .after .u-small), add-le-add (p .1 .before .v-small) (p .1 .after .v-small)), (omega (arith, p .1 .before .c-small, p .1 .after .c-small), omega (arith, p .1 .x-small))))
+retained-requires c κs =
+    let p = at-edge c .pre in
+    let l = p .1 .before in
+    let r = p .1 .after in
+    rw (c .edge-of .ensures) (
+      p .0,
+      (omega (arith, p .1 .rightward), (summed l r, (omega (arith, l .c-small, r .c-small), omega (arith, p .1 .x-small)))),
+    )
 
--- src/cut.rt:144:12
 sub-e : tie.Need-sub-e
-sub-e c = subst (λ (k : ℕ). k ≤ c .before .before .before .before .before .args .d) (sym (c .retained .ensures)) (retained-le _ _ _ _ _ _)
+sub-e c = subst (λ (k : ℕ). k ≤ at-retained c .args .d) (sym (c .retained .ensures)) (retained-le _ _ _ _ _ _)
 
--- src/cut.rt:147:17
 mul-n : tie.Need-mul-n
-mul-n c = fit (upwards (c .before .before .before .before .before .before)) tt
+mul-n c = fit (upwards (at-retained (c .before))) tt
 
--- src/cut.rt:147:11
 add-n : tie.Need-add-n
-add-n c = let s = c .before .before .before .before .before .before .before in fit (add-le-add (s .pre .1 .y-small) (upwards s)) tt
+add-n c = let s = at-corner c in fit (add-le-add (s .pre .1 .y-small) (upwards s)) tt
 
--- src/cut.rt:148:5
 shorter-end-requires : tie.Need-shorter-end-requires
 shorter-end-requires c κs = search needs
 
--- src/cut.rt:151:5
 shorter-start-requires : tie.Need-shorter-start-requires
-shorter-start-requires c κs = c .before .before .before .before .before .before .before .before .pre .1 .cuttable .right
+shorter-start-requires c κs = at-corner (c .before) .pre .1 .cuttable .right
 
--- src/cut.rt:135:1
 returns : tie.Need-returns
-returns c = record { few = omega arith; is = λ rest. rw (c .before .shorter-end .ensures, c .shorter-start .ensures, c .before .before .before .before .retained .ensures, c .before .before .before .before .before .edge-of .ensures) }
+returns c =
+    let k = c .before .before .before .before in
+    record { few = omega arith; is = λ rest. rw (c .before .shorter-end .ensures, c .shorter-start .ensures, k .retained .ensures, k .before .edge-of .ensures) }
 
 pub cut-new-spec : {M : Type 1} → statement M
 cut-new-spec =

@@ -2,35 +2,25 @@
 use Rattle.quarter.proofs.Most.{fit}
 use native.Mathlib.Omega.{arith}
 use native.Mathlib.Nat.{mul-le-mul, add-le-add}
-use mathlib.Core.Path.{_≡_}
 use borrow.Author.Needs.{needs}
 use Rattle.quarter.proofs.cut.passed.Statement.{statement}
 use Rattle.quarter.proofs.cut.passed.Tie as tie
-use Rattle.quarter.proofs.cut.passed.Reads as reads
-use Rattle.quarter.proofs.cut.passed.Lts as lts
-use Rattle.quarter.proofs.cut.minus.Reads as minus-reads
 
--- src/cut.rt:179:16
 add-size : tie.Need-add-size
 add-size c = search needs
 
--- src/cut.rt:181:17
 mul-n : tie.Need-mul-n
 mul-n c = let p = c .before .before .pre .0 in fit (mul-le-mul (add-le-add (p .l1-small) (p .l2-small)) (p .u-small)) tt
 
--- src/cut.rt:181:11
 add-n : tie.Need-add-n
 add-n c = let p = c .before .before .before .pre in fit (add-le-add (p .1) (mul-le-mul (add-le-add (p .0 .l1-small) (p .0 .l2-small)) (p .0 .u-small))) tt
 
--- src/cut.rt:182:22
 mul-minus : tie.Need-mul-minus
 mul-minus c = let p = c .before .before .before .before .pre .0 in fit (mul-le-mul (add-le-add (p .l1-small) (p .l2-small)) (p .v-small)) tt
 
--- src/cut.rt:182:5
 minus-requires : tie.Need-minus-requires
-minus-requires c κs = search needs
+minus-requires c κs = tt
 
--- src/cut.rt:175:1
 returns : tie.Need-returns
 returns c = record { few = omega arith; is = λ rest. rw (c .minus .ensures) }
 

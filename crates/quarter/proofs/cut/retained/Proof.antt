@@ -1,85 +1,74 @@
 -- The quotient of step 4 with its bounds: the numerator is below 2^28, and the divisor is not 0.
 use Rattle.quarter.proofs.Most.{fit, norm-least}
 use Rattle.quarter.specs.Cutting.{retained}
-use Rattle.quarter.specs.NearRoot.{norm}
 use native.Mathlib.Omega.{arith}
 use native.Mathlib.Nat.{mul-le-mul, add-le-add, le-refl, one-le-mul}
-use mathlib.Core.Path.{_≡_, refl, sym, ap, subst, _∙_}
-use Prim.Native.Nat.{ℕ, _+_, _*_, _-_, _≤_, _<_}
-use borrow.Author.Needs.{needs}
+use mathlib.Core.Path.{sym, subst}
+use Prim.Native.Nat.{ℕ, _*_, _≤_}
 use Rattle.quarter.proofs.cut.retained.Statement.{statement}
 use Rattle.quarter.proofs.cut.retained.Tie as tie
-use Rattle.quarter.proofs.cut.retained.Reads as reads
-use Rattle.quarter.proofs.cut.retained.Lts as lts
-use Rattle.quarter.proofs.cut.least.Reads as least-reads
-use Rattle.quarter.proofs.cut.minus.Reads as minus-reads
-use Rattle.quarter.proofs.root.norm.Reads as norm-reads
+
+-- p²v, p²vc, and twice what is left of it
+square : (c : tie.Start) → c .args .s .p * c .args .s .p * c .args .v ≤ 16384
+square c = let p = c .pre in mul-le-mul (mul-le-mul (p .0 .p-high) (p .0 .p-high)) (p .1 .1 .0 .v-small)
 
 first : (c : tie.Start) → c .args .s .p * c .args .s .p * c .args .v * c .args .c ≤ 134217728
-first c = let p = c .pre in mul-le-mul (mul-le-mul (mul-le-mul (p .0 .p-high) (p .0 .p-high)) (p .1 .0 .2)) (p .1 .1 .0)
+first c = mul-le-mul (square c) (c .pre .1 .1 .1 .0)
 
 twice : (c : tie.After-minus) → 2 * c .minus .result ≤ 268435456
 twice c = omega (arith, c .minus .ensures, first (c .before .before .before))
 
--- src/cut.rt:49:9
-norm-requires : tie.Need-norm-requires
-norm-requires c κs = search needs
+-- u times the norm: it is small, and not 0
+divisor : (c : tie.After-norm) → c .before .args .u * c .norm .result ≤ 134217728
+divisor c = mul-le-mul (c .before .pre .1 .1 .0 .u-small) (c .norm .ensures .1)
 
--- src/cut.rt:50:23
+divisor-some : (c : tie.After-norm) → 1 ≤ c .before .args .u * c .norm .result
+divisor-some c =
+    let s = c .before in
+    one-le-mul (s .pre .1 .0) (subst (λ (k : ℕ). 1 ≤ k) (sym (c .norm .ensures .0)) (norm-least (s .pre .0) (s .args .v) (s .pre .1 .0)))
+
+norm-requires : tie.Need-norm-requires
+norm-requires c κs = (c .pre .0, c .pre .1 .1 .0)
+
 mul-minus : tie.Need-mul-minus
 mul-minus c = let t = c .before .before .pre .0 in fit (mul-le-mul (t .p-high) (t .p-high)) tt
 
--- src/cut.rt:50:23
 mul-minus-2 : tie.Need-mul-minus-2
-mul-minus-2 c = let p = c .before .before .pre in fit (mul-le-mul (mul-le-mul (p .0 .p-high) (p .0 .p-high)) (p .1 .0 .2)) tt
+mul-minus-2 c = fit (square (c .before .before)) tt
 
--- src/cut.rt:50:23
 mul-minus-3 : tie.Need-mul-minus-3
 mul-minus-3 c = fit (first (c .before .before)) tt
 
--- src/cut.rt:50:42
 mul-minus-4 : tie.Need-mul-minus-4
-mul-minus-4 c = let p = c .before .before .pre in fit (mul-le-mul (p .1 .1 .1) (c .before .norm .ensures .1)) tt
+mul-minus-4 c = fit (mul-le-mul (c .before .before .pre .1 .1 .1 .1) (c .before .norm .ensures .1)) tt
 
--- src/cut.rt:50:9
 minus-requires : tie.Need-minus-requires
-minus-requires c κs = search needs
+minus-requires c κs = tt
 
--- src/cut.rt:51:15
-mul-least : tie.Need-mul-least
-mul-least c = fit (twice c) tt
+mul-min-u64 : tie.Need-mul-min-u64
+mul-min-u64 c = fit (twice c) tt
 
--- src/cut.rt:51:27
-mul-least-2 : tie.Need-mul-least-2
-mul-least-2 c = fit (mul-le-mul (c .before .before .before .pre .1 .0 .1) (c .before .before .norm .ensures .1)) tt
+mul-min-u64-2 : tie.Need-mul-min-u64-2
+mul-min-u64-2 c = fit (divisor (c .before .before)) tt
 
--- src/cut.rt:51:15
-add-least : tie.Need-add-least
-add-least c = fit (add-le-add (twice c) (mul-le-mul (c .before .before .before .pre .1 .0 .1) (c .before .before .norm .ensures .1))) tt
+add-min-u64 : tie.Need-add-min-u64
+add-min-u64 c = fit (add-le-add (twice c) (divisor (c .before .before))) tt
 
--- src/cut.rt:51:42
-mul-least-3 : tie.Need-mul-least-3
-mul-least-3 c = fit (mul-le-mul (c .before .before .before .pre .1 .0 .1) (c .before .before .norm .ensures .1)) tt
+mul-min-u64-3 : tie.Need-mul-min-u64-3
+mul-min-u64-3 c = fit (divisor (c .before .before)) tt
 
--- src/cut.rt:51:37
-mul-least-4 : tie.Need-mul-least-4
-mul-least-4 c = fit (mul-le-mul (le-refl 2) (mul-le-mul (c .before .before .before .pre .1 .0 .1) (c .before .before .norm .ensures .1))) tt
+mul-min-u64-4 : tie.Need-mul-min-u64-4
+mul-min-u64-4 c = fit (mul-le-mul (le-refl 2) (divisor (c .before .before))) tt
 
--- src/cut.rt:51:14
-div-least : tie.Need-div-least
-div-least c =
-    let p = c .before .before .before .pre in
-    let n : 1 ≤ c .before .before .norm .result = subst (λ (k : ℕ). 1 ≤ k) (sym (c .before .before .norm .ensures .0)) (norm-least (p .0) (c .before .before .before .args .v) (p .1 .0 .0)) in
-    omega (arith, one-le-mul (p .1 .0 .0) n)
+div-min-u64 : tie.Need-div-min-u64
+div-min-u64 c = omega (arith, divisor-some (c .before .before))
 
--- src/cut.rt:51:5
-least-requires : tie.Need-least-requires
-least-requires c κs = search needs
+min-u64-requires : tie.Need-min-u64-requires
+min-u64-requires c κs = tt
 
--- src/cut.rt:45:1
 returns : tie.Need-returns
 unfolding retained
-returns c = rw (c .least .ensures, c .before .minus .ensures, c .before .before .before .norm .ensures .0)
+returns c = rw (c .min-u64 .ensures, c .before .minus .ensures, c .before .before .before .norm .ensures .0)
 
 pub retained-spec : {M : Type 1} → statement M
 retained-spec =
@@ -91,11 +80,11 @@ retained-spec =
     mul-minus-3
     mul-minus-4
     minus-requires
-    mul-least
-    mul-least-2
-    add-least
-    mul-least-3
-    mul-least-4
-    div-least
-    least-requires
+    mul-min-u64
+    mul-min-u64-2
+    add-min-u64
+    mul-min-u64-3
+    mul-min-u64-4
+    div-min-u64
+    min-u64-requires
     returns)

@@ -7,13 +7,8 @@ use Rattle.setting.specs.declared.Setting.{Setting}
 use Rattle.quarter.specs.declared.Edge.{Edge}
 use Rattle.quarter.specs.Cutting.{State, act, passed, cut, put, on}
 use Rattle.quarter.specs.Held.{outcome}
-use borrow.Author.Needs.{needs}
 use Rattle.quarter.proofs.cut.step.Statement.{statement}
 use Rattle.quarter.proofs.cut.step.Tie as tie
-use Rattle.quarter.proofs.cut.step.Reads as reads
-use Rattle.quarter.proofs.cut.step.Lts as lts
-use Rattle.quarter.proofs.cut.cut.Reads as cut-reads
-use Rattle.quarter.proofs.cut.passed.Reads as passed-reads
 
 module _ (σ : Setting) (x y : ℕ) (L R : Edge) (rest : List Edge) {n : State} where
   goes-out : (d : ℕ) → d ≡ 0 → n ≡ passed x y R rest → act d σ x y L R rest ≡ outcome d n
@@ -24,21 +19,23 @@ module _ (σ : Setting) (x y : ℕ) (L R : Edge) (rest : List Edge) {n : State} 
   goes-on zero e h = absurd (e refl)
   goes-on (suc d) e h = ap on (sym h)
 
--- src/cut.rt:196:9
 passed-requires : tie.Need-passed-requires
-passed-requires c κs = search needs
+passed-requires c κs = let room = c .before .pre .1 in (room .after, room .x-small)
 
--- src/cut.rt:196:9
 returns : tie.Need-returns
-returns c = let a = c .before .before .args in let n = c .passed .ensures in record { few = n .few; is = λ rest. goes-out (a .s) (a .t .x) (a .t .y) (a .t .before) (a .r) rest (a .d) (c .before .if1 .taken) (n .is rest) }
+returns c =
+    let a = c .before .before .args in
+    let n = c .passed .ensures in
+    record { few = n .few; is = λ rest. goes-out (a .s) (a .t .x) (a .t .y) (a .t .before) (a .r) rest (a .d) (c .before .if1 .taken) (n .is rest) }
 
--- src/cut.rt:198:5
 cut-requires : tie.Need-cut-requires
-cut-requires c κs = search needs
+cut-requires c κs = c .before .pre
 
--- src/cut.rt:191:1
 returns-2 : tie.Need-returns-2
-returns-2 c = let a = c .before .before .args in let n = c .cut .ensures in record { few = n .few; is = λ rest. goes-on (a .s) (a .t .x) (a .t .y) (a .t .before) (a .r) rest (a .d) (c .before .if1 .left) (n .is rest) }
+returns-2 c =
+    let a = c .before .before .args in
+    let n = c .cut .ensures in
+    record { few = n .few; is = λ rest. goes-on (a .s) (a .t .x) (a .t .y) (a .t .before) (a .r) rest (a .d) (c .before .if1 .left) (n .is rest) }
 
 pub step-spec : {M : Type 1} → statement M
 step-spec = tie.close (tie.spec passed-requires returns cut-requires returns-2)

@@ -22,17 +22,24 @@ mul-odd c = search needs
 sub-odd : tie.Need-sub-odd
 sub-odd c = search needs
 
+-- 64q², and the odd number
+scale : (c : tie.Start) → 64 * (c .args .s .q * c .args .s .q) ≤ 16384
+scale c = let t = c .pre .0 in mul-le-mul (le-refl 64) (mul-le-mul (t .q-high) (t .q-high))
+
+odd : (c : tie.Start) → 2 * middle (c .args .i) - 1 ≤ 16383
+odd c = omega (arith, c .pre .1)
+
 mul-if1 : tie.Need-mul-if1
 mul-if1 c = let t = c .before .before .pre .0 in fit (mul-le-mul (t .q-high) (t .q-high)) tt
 
 mul-if1-2 : tie.Need-mul-if1-2
-mul-if1-2 c = let t = c .before .before .pre .0 in fit (mul-le-mul (le-refl 64) (mul-le-mul (t .q-high) (t .q-high))) tt
+mul-if1-2 c = fit (scale (c .before .before)) tt
 
 mul-if1-3 : tie.Need-mul-if1-3
-mul-if1-3 c = let h : 2 * middle (c .before .before .args .i) - 1 ≤ 16383 = omega (arith, c .before .before .pre .1) in fit (mul-le-mul h h) tt
+mul-if1-3 c = let o = odd (c .before .before) in fit (mul-le-mul o o) tt
 
 mul-if1-4 : tie.Need-mul-if1-4
-mul-if1-4 c = let t = c .before .before .pre .0 in let h : 2 * middle (c .before .before .args .i) - 1 ≤ 16383 = omega (arith, c .before .before .pre .1) in fit (mul-le-mul (mul-le-mul (le-refl 64) (mul-le-mul (t .q-high) (t .q-high))) (mul-le-mul h h)) tt
+mul-if1-4 c = let o = odd (c .before .before) in fit (mul-le-mul (scale (c .before .before)) (mul-le-mul o o)) tt
 
 returns : tie.Need-returns
 unfolding halved lower

@@ -3,30 +3,22 @@ use borrow.Author.Needs.{needs}
 use Rattle.setting.specs.Setting.{Dx}
 use Rattle.quarter.proofs.size.width.Statement.{statement}
 use Rattle.quarter.proofs.size.width.Tie as tie
-use Rattle.quarter.proofs.size.width.Reads as reads
-use Rattle.quarter.proofs.size.width.Lts as lts
 
--- src/size.rt:19:6
 mul-result : tie.Need-mul-result
 mul-result c = search needs
 
--- src/size.rt:19:18
 mul-result-2 : tie.Need-mul-result-2
 mul-result-2 c = search needs
 
--- src/size.rt:19:6
 add-result : tie.Need-add-result
 add-result c = search needs
 
--- src/size.rt:19:30
 mul-result-3 : tie.Need-mul-result-3
 mul-result-3 c = search needs
 
--- src/size.rt:19:5
 div-result : tie.Need-div-result
 div-result c = search needs
 
--- src/size.rt:15:1
 returns : tie.Need-returns
 unfolding Dx
 returns c = refl

@@ -1,20 +1,47 @@
 -- What the cuts come to decides how the row is drawn; each way gives the row's runs.
-use mathlib.Core.Path.{refl, sym, ap, _∙_}
+use Prim.Native.Nat.{ℕ, _≤_, _<_}
+use mathlib.Core.Path.{_≡_, refl, sym, ap, _∙_}
 use mathlib.Core.List.{List, []}
 use native.Mathlib.Omega.{arith}
-use Rattle.plane.specs.Point.{corners}
+use borrow.Author.Needs.{needs}
+use Rattle.limits.specs.declared.Verdict.the-variants.{Passed}
+use Rattle.plane.specs.Point.{Pt, corners}
 use Rattle.stroke.specs.Runs.{Run}
 use Rattle.stroke.specs.Sweep.{pathPoints}
-use Rattle.row.specs.Answer.{runsResult}
-use Rattle.row.proofs.Drawn.{runs-fit, runs-untouched, runs-touched}
+use Rattle.cuts.specs.declared.Touch.the-variants.{One}
+use Rattle.cuts.specs.Cuts.{touchIn}
 use Rattle.cuts.proofs.Together.{once-in}
-use borrow.Author.Needs.{needs}
+use Rattle.checks.specs.Answer.{Result, given}
+use Rattle.checks.proofs.Given.{room-left}
+use Rattle.row.specs.Answer.{runsOffer}
+use Rattle.row.proofs.Drawn.{runs-untouched, runs-touched}
 use Rattle.row.proofs.draw.draw_runs.Statement.{statement}
 use Rattle.row.proofs.draw.draw_runs.Tie as tie
-use Rattle.checks.proofs.done.Reads as done-reads
-use Rattle.cuts.proofs.touching.Reads as touching-reads
-use Rattle.row.proofs.draw.several_runs.Reads as several-runs-reads
-use Rattle.row.proofs.draw.write_single.Reads as write-single-reads
+
+-- where the segments have been counted: the pen's corners, and the call for other runs
+abbrev start : tie.After-touching → tie.Start
+start c = c .before .before
+
+abbrev pen-corners : tie.Start → List Pt
+pen-corners s = corners (s .args .count) (s .args .xs .now) (s .args .ys .now)
+
+abbrev offered : tie.Start → List Run → Result ℕ
+offered s rs = given Passed (runsOffer rs (s .args .runs .now))
+
+-- where one segment touches the row: its columns
+abbrev left : tie.After-left → ℕ
+left c = c .left .given .0 .0
+
+abbrev right : tie.After-left → ℕ
+right c = c .left .given .0 .1 .0
+
+once : (c : tie.After-left) → let s = start (c .before .before) in touchIn (pen-corners s) (pathPoints (s .args .path .now)) (s .args .columns) (s .args .row) ≡ One (left c) (right c)
+once c = sym (c .before .before .touching .ensures) ∙ c .left .given .1
+
+inside : (c : tie.After-left) → let s = start (c .before .before) in (left c ≤ right c) × (right c < s .args .columns)
+inside c =
+    let s = start (c .before .before) in
+    once-in (pen-corners s) (pathPoints (s .args .path .now)) (s .args .columns) (s .args .row) (s .pre .size) (left c) (right c) (once c)
 
 touching-requires : tie.Need-touching-requires
 touching-requires c κs = search needs
@@ -30,9 +57,9 @@ enum-known-left c = search needs
 
 write-single-requires : tie.Need-write-single-requires
 write-single-requires c κs =
-    let a = c .before .before .before .before .before .before .args in
-    let i = once-in (corners (a .count) (a .xs .now) (a .ys .now)) (pathPoints (a .path .now)) (a .wide) (a .row) (c .before .before .before .before .before .before .pre .1 .0) (c .before .before .left .given .0 .0) (c .before .before .left .given .0 .1 .0) (sym (c .before .before .before .before .touching .ensures) ∙ c .before .before .left .given .1) in
-    (omega (arith, i, c .before .before .before .before .before .before .pre .1 .0), omega (arith, i, c .before .before .before .before .before .before .pre .1 .0))
+    let one = c .before .before in
+    let few = start (one .before .before) .pre .size .few in
+    (omega (arith, inside one, few), omega (arith, inside one, few))
 
 enum-told-2 : tie.Need-enum-told-2
 enum-told-2 c = search needs
@@ -42,20 +69,21 @@ several-runs-requires c κs = search needs
 
 returns : tie.Need-returns
 returns c =
-    let a = c .before .before .before .before .before .args in
-    runs-fit [] (a .runs .now) (omega arith) (c .done .ensures) refl
-    ∙ ap (λ (rs : List Run). runsResult rs (a .runs .now))
-    (sym (runs-untouched (corners (a .count) (a .xs .now) (a .ys .now)) (a .path .now) (a .wide) (a .row) (c .before .before .before .before .before .pre .1 .0) (c .before .before .before .before .before .pre .0) (c .before .before .before .before .before .pre .1 .1) (sym (c .before .before .before .touching .ensures) ∙ c .before .enum-told .given .1)))
+    let touched = c .before .before .before in
+    let s = start touched in
+    room-left (runsOffer [] (s .args .runs .now)) (omega arith) (c .done .ensures) refl
+    ∙ ap (offered s) (sym (runs-untouched (pen-corners s) (s .args .path .now) (s .args .columns) (s .args .row) (s .pre) (sym (touched .touching .ensures) ∙ c .before .enum-told .given .1)))
 
 same-length : tie.Need-same-length
 same-length c = search needs
 
 returns-2 : tie.Need-returns-2
 returns-2 c =
-    let a = c .before .before .before .before .before .before .before .before .before .args in
-    c .before .before .write-single .ensures
-    ∙ ap (λ (rs : List Run). runsResult rs (a .runs .now))
-    (sym (runs-touched (corners (a .count) (a .xs .now) (a .ys .now)) (a .path .now) (a .wide) (a .row) (c .before .before .before .before .before .before .before .before .before .pre .1 .0) (c .before .before .before .before .before .before .before .before .before .pre .0) (c .before .before .before .before .before .before .before .before .before .pre .1 .1) (c .before .before .before .before .before .left .given .0 .0) (c .before .before .before .before .before .left .given .0 .1 .0) (sym (c .before .before .before .before .before .before .before .touching .ensures) ∙ c .before .before .before .before .before .left .given .1)))
+    let written = c .before .before in
+    let one = written .before .before .before in
+    let s = start (one .before .before) in
+    written .write-single .ensures
+    ∙ ap (offered s) (sym (runs-touched (pen-corners s) (s .args .path .now) (s .args .columns) (s .args .row) (s .pre) (left one) (right one) (once one)))
 
 same-length-2 : tie.Need-same-length-2
 same-length-2 c = search needs

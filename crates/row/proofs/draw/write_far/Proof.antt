@@ -1,21 +1,19 @@
 -- The count is that of the runs, so the room is known before anything is written.
+use Prim.Native.Nat.{ℕ, _/_, _≤_}
 use mathlib.Core.Path.{_≡_, ap, _∙_}
 use mathlib.Core.List.{List}
 use native.Mathlib.Omega.{arith}
-use Rattle.row.proofs.Drawn.{runs-fit, room-for, no-room}
 use lib.ListN.{length}
-use Prim.Native.Nat.{ℕ, _/_}
-use Rattle.checks.specs.Checks.{roomVerdict}
+use borrow.Author.Needs.{needs}
 use Rattle.stroke.specs.Runs.{Run, runsOf}
 use Rattle.cuts.specs.Cuts.{blackFar}
-use borrow.Author.Needs.{needs}
+use Rattle.checks.specs.Checks.{roomVerdict}
+use Rattle.checks.specs.Answer.{done}
+use Rattle.checks.proofs.Verdicts.{room-passed}
+use Rattle.checks.proofs.Given.{no-room, room-left}
+use Rattle.row.specs.Answer.{runsOffer}
 use Rattle.row.proofs.draw.write_far.Statement.{statement}
 use Rattle.row.proofs.draw.write_far.Tie as tie
-use Rattle.checks.proofs.done.Reads as done-reads
-use Rattle.checks.proofs.report.Reads as report-reads
-use Rattle.checks.proofs.room_check.Reads as room-check-reads
-use Rattle.row.proofs.runs.count_runs.Reads as count-runs-reads
-use Rattle.row.proofs.runs.write_runs.Reads as write-runs-reads
 
 -- where the room has been checked: the runs of the array, the list as it was lent, and the verdict on the room
 abbrev start : tie.After-room-check → tie.Start
@@ -29,6 +27,10 @@ lent c = start c .args .runs .now
 
 verdict : (c : tie.After-room-check) → c .room-check .result ≡ roomVerdict (length (found c)) (length (lent c) / 2)
 verdict c = c .room-check .ensures ∙ ap (λ (n : ℕ). roomVerdict n (length (lent c) / 2)) (c .before .count-runs .ensures)
+
+-- where that check is passed there is room
+room : (c : tie.After-enum-told) → let k = c .before .before in length (found k) ≤ length (lent k) / 2
+room c = room-passed _ _ (verdict (c .before .before)) (c .enum-told .given .1)
 
 count-runs-requires : tie.Need-count-runs-requires
 count-runs-requires c κs = search needs
@@ -46,13 +48,12 @@ report-requires : tie.Need-report-requires
 report-requires c κs = search needs
 
 returns : tie.Need-returns
-returns c = let k = c .before .before .before in no-room (found k) (lent k) (verdict k) (c .before .enum-told2 .given .1) (c .report .ensures)
+returns c = let k = c .before .before .before in no-room (runsOffer (found k) (lent k)) (verdict k) (c .before .enum-told2 .given .1) (c .report .ensures)
 
 write-runs-requires : tie.Need-write-runs-requires
 write-runs-requires c κs =
-    let k = c .before .before .before in
-    let r = room-for (found k) (lent k) (verdict k) (c .before .enum-told .given .1) in
-    (start k .pre .0, (start k .pre .1 .0, (omega (arith, r), start k .pre .1 .1)))
+    let s = start (c .before .before .before) in
+    (s .pre .0, (s .pre .1 .0, (omega (arith, room (c .before)), s .pre .1 .1)))
 
 done-requires : tie.Need-done-requires
 done-requires c κs = search needs
@@ -62,9 +63,10 @@ same-length c = search needs
 
 returns-2 : tie.Need-returns-2
 returns-2 c =
-    let k = c .before .before .before .before .before .before .before in
-    let r = room-for (found k) (lent k) (verdict k) (c .before .before .before .before .before .enum-told .given .1) in
-    runs-fit (found k) (lent k) r (c .done .ensures ∙ ap (λ (n : ℕ). record { refusal = 0; place = 0; count = n }) (k .before .count-runs .ensures)) (c .before .before .before .write-runs .ensures)
+    let written = c .before .before .before in
+    let passed = written .before .before in
+    let k = passed .before .before in
+    room-left (runsOffer (found k) (lent k)) (room passed) (c .done .ensures ∙ ap done (k .before .count-runs .ensures)) (written .write-runs .ensures)
 
 pub write-far-spec : {M : Type 1} → statement M
 write-far-spec =

@@ -1,14 +1,26 @@
 -- One run needs one record.
-use native.Mathlib.Omega.{arith}
-use Rattle.row.proofs.Drawn.{runs-fit, room-for, no-room}
+use Prim.Native.Nat.{ℕ, _/_, _≤_}
 use mathlib.Core.List.{[], _∷_}
+use native.Mathlib.Omega.{arith}
+use lib.ListN.{length}
 use borrow.Author.Needs.{needs}
+use Rattle.checks.specs.Answer.{Offer}
+use Rattle.checks.proofs.Verdicts.{room-passed}
+use Rattle.checks.proofs.Given.{no-room, room-left}
+use Rattle.row.specs.Answer.{runsOffer}
 use Rattle.row.proofs.draw.write_single.Statement.{statement}
 use Rattle.row.proofs.draw.write_single.Tie as tie
-use Rattle.checks.proofs.done.Reads as done-reads
-use Rattle.checks.proofs.report.Reads as report-reads
-use Rattle.checks.proofs.room_check.Reads as room-check-reads
-use Rattle.row.proofs.runs.write_one.Reads as write-one-reads
+
+-- where the room has been checked: what the call offers
+abbrev start : tie.After-room-check → tie.Start
+start c = c .before .before
+
+abbrev offer : tie.After-room-check → Offer ℕ
+offer c = let a = start c .args in runsOffer (record { left = a .left; right = a .right } ∷ []) (a .runs .now)
+
+-- where that check is passed there is room
+room : (c : tie.After-enum-told) → 1 ≤ length (start (c .before .before) .args .runs .now) / 2
+room c = room-passed 1 _ (c .before .before .room-check .ensures) (c .enum-told .given .1)
 
 room-check-requires : tie.Need-room-check-requires
 room-check-requires c κs = search needs
@@ -23,10 +35,10 @@ report-requires : tie.Need-report-requires
 report-requires c κs = search needs
 
 returns : tie.Need-returns
-returns c = no-room (record { left = c .before .before .before .before .before .args .left; right = c .before .before .before .before .before .args .right } ∷ []) (c .before .before .before .before .before .args .runs .now) (c .before .before .before .room-check .ensures) (c .before .enum-told2 .given .1) (c .report .ensures)
+returns c = let k = c .before .before .before in no-room (offer k) (k .room-check .ensures) (c .before .enum-told2 .given .1) (c .report .ensures)
 
 write-one-requires : tie.Need-write-one-requires
-write-one-requires c κs = let r = room-for (record { left = c .before .before .before .before .before .args .left; right = c .before .before .before .before .before .args .right } ∷ []) (c .before .before .before .before .before .args .runs .now) (c .before .before .before .room-check .ensures) (c .before .enum-told .given .1) in (omega (arith, r), c .before .before .before .before .before .pre)
+write-one-requires c κs = let k = c .before .before .before in (omega (arith, room (c .before)), start k .pre)
 
 done-requires : tie.Need-done-requires
 done-requires c κs = search needs
@@ -36,8 +48,9 @@ same-length c = search needs
 
 returns-2 : tie.Need-returns-2
 returns-2 c =
-    let r = room-for (record { left = c .before .before .before .before .before .before .before .before .before .args .left; right = c .before .before .before .before .before .before .before .before .before .args .right } ∷ []) (c .before .before .before .before .before .before .before .before .before .args .runs .now) (c .before .before .before .before .before .before .before .room-check .ensures) (c .before .before .before .before .before .enum-told .given .1) in
-    runs-fit (record { left = c .before .before .before .before .before .before .before .before .before .args .left; right = c .before .before .before .before .before .before .before .before .before .args .right } ∷ []) (c .before .before .before .before .before .before .before .before .before .args .runs .now) r (c .done .ensures) (c .before .before .before .write-one .ensures)
+    let written = c .before .before .before in
+    let passed = written .before .before in
+    room-left (offer (passed .before .before)) (room passed) (c .done .ensures) (written .write-one .ensures)
 
 pub write-single-spec : {M : Type 1} → statement M
 write-single-spec =
