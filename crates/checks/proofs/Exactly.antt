@@ -15,14 +15,15 @@ use Rattle.integers.specs.Orders.{_≺_}
 use Rattle.limits.specs.Sizes.{entriesMax, coordinateMax, inRange, rasterMax, isSize}
 use Rattle.limits.specs.declared.Verdict.{Verdict}
 use Rattle.limits.specs.declared.Verdict.the-variants.{Passed, Refused}
-use Rattle.limits.specs.Refusal.{path, coordinate, raster, row, room, refuse, unless, _then_}
+use Rattle.limits.specs.Refusal.{Refusal, number, path, coordinate, raster, row, room, refuse, unless, _then_}
 use Rattle.limits.specs.Exactly.{_when_else_, done, BadPath, BadEntry, BadCoordinate, FirstBad, BadSize, BadRaster, BadRow, NoRoom}
 use Rattle.limits.proofs.Sizes.{size-iff}
 use Rattle.limits.proofs.Verdicts.{not-passed}
 use Rattle.limits.proofs.Exactly.{numberOf, placeOf, Says, passes, refuses, unless-says, says-last, says-first}
 use Rattle.checks.specs.declared.Answer.{Answer}
 use Rattle.checks.specs.Checks.{pathVerdict, rasterVerdict, rowVerdict, coordinateFrom, coordinateVerdict, verdict, callVerdict, roomVerdict}
-use Rattle.checks.specs.Answer.{Result, Offer, settled, given}
+use Rattle.checks.specs.Answer.{Offer, settled, given}
+use Rattle.checks.specs.Refuses.{Refuses}
 
 -- ---- the lines of the table
 -- a conjunction fails where one of its parts does
@@ -155,18 +156,65 @@ settled-number : {A : Type 0} (v : Verdict) (o : Offer A) → settled v o .answe
 settled-number Passed o = refl
 settled-number (Refused n place) o = refl
 
-module _ {A : Type 0} (o : Offer A) (p : List ℤ) (columns rows j : ℕ) where
-  -- what a call answers whose checks of the pen say something, and whose path is refused where something applies
-  pub given-exactly : {v w : Verdict} {n : ℕ} {NoPen Bad : Type 0} → Says v n NoPen → Says w 2 Bad →
-      (all : Verdict) → (all then roomVerdict (o .count) (o .space))
-          ≡ (v then w then rasterVerdict columns rows then rowVerdict rows j then coordinateVerdict p then roomVerdict (o .count) (o .space)) →
-      (k : ℕ) → (given all o .answer .refusal ≡ k)
-          ↔ (n when NoPen else 2 when Bad else 4 when BadRaster columns rows else 5 when BadRow rows j else 3 when BadCoordinate p else 7 when NoRoom (o .count) (o .space) else done) k
-  given-exactly s t all e k =
-      let f = says-first s _ _ (says-first t _ _ (after-path p columns rows j (o .count) (o .space))) k in
-      let g = settled-number (all then roomVerdict (o .count) (o .space)) o ∙ ap numberOf e in
-      ((λ h. f .0 (sym g ∙ h)), λ h. g ∙ f .1 h)
+-- ---- a call
+-- a refusal gives nothing and keeps what was lent
+settled-none : {A : Type 0} (v : Verdict) (o : Offer A) → ¬ (settled v o .answer .refusal ≡ 0) → (settled v o .answer .count ≡ 0) × (settled v o .list ≡ o .before)
+settled-none Passed o h = absurd (h refl)
+settled-none (Refused n place) o h = (refl, refl)
 
-  pub call-exactly : {v : Verdict} {n : ℕ} {NoPen : Type 0} → Says v n NoPen → (k : ℕ) → (given (callVerdict v p columns rows j) o .answer .refusal ≡ k)
-      ↔ (n when NoPen else 2 when BadPath p else 4 when BadRaster columns rows else 5 when BadRow rows j else 3 when BadCoordinate p else 7 when NoRoom (o .count) (o .space) else done) k
-  call-exactly {v} s k = given-exactly s (path-says p) (callVerdict v p columns rows j) (in-order v (pathVerdict p) (rasterVerdict columns rows) (rowVerdict rows j) (coordinateVerdict p) _) k
+settled-place : {A : Type 0} (v : Verdict) (o : Offer A) → settled v o .answer .place ≡ placeOf v
+settled-place Passed o = refl
+settled-place (Refused n place) o = refl
+
+-- where a check with another number than 3 has only the place 0, so have it and the checks after it
+abbrev pub Placed : List ℤ → Verdict → Type 0
+Placed p v = (numberOf v ≡ 3 → FirstBad p (placeOf v)) × (¬ (numberOf v ≡ 3) → placeOf v ≡ 0)
+
+pub unless-placed : (p : List ℤ) (t : Bool) (r : Refusal) → ¬ (number r ≡ 3) → Placed p (unless t r)
+unless-placed p true r h = ((λ e. absurd (omega (arith, e))), λ e. refl)
+unless-placed p false r h = ((λ e. absurd (h e)), λ e. refl)
+
+pub then-placed : (p : List ℤ) (v w : Verdict) → Placed p v → Placed p w → Placed p (v then w)
+then-placed p Passed w f g = g
+then-placed p (Refused n place) w f g = f
+
+coordinate-placed : (p : List ℤ) → Placed p (coordinateVerdict p)
+coordinate-placed p = go (coordinateVerdict p) refl (coordinate-says p)
+  where
+    go : (v : Verdict) → coordinateVerdict p ≡ v → Says (coordinateVerdict p) 3 (BadCoordinate p) → Placed p v
+    go Passed e s = ((λ q. absurd (omega (arith, q))), λ q. refl)
+    go (Refused n place) e (passes f h) = not-passed (sym e ∙ f)
+    go (Refused n place) e (refuses k f h) = ((λ q. coordinate-place p n place e), λ q. absurd (q (ap numberOf (sym e ∙ f))))
+
+after-placed : (p : List ℤ) (columns rows j needed space : ℕ) → Placed p (rasterVerdict columns rows then rowVerdict rows j then coordinateVerdict p then roomVerdict needed space)
+after-placed p columns rows j needed space =
+    then-placed p (rasterVerdict columns rows) _ (unless-placed p (isSize columns && isSize rows) raster (λ e. omega arith))
+    (then-placed p (rowVerdict rows j) _ (unless-placed p (ltb j rows) row (λ e. omega arith))
+    (then-placed p (coordinateVerdict p) _ (coordinate-placed p) (unless-placed p (leb needed space) room (λ e. omega arith))))
+
+module _ {A : Type 0} (o : Offer A) (p : List ℤ) (columns rows j : ℕ) where
+  -- 4, 5, 3 and 7 come after what is checked of the pen, v, and of the path's length, w
+  abbrev After : Verdict → Verdict → Verdict
+  After v w = v then w then rasterVerdict columns rows then rowVerdict rows j then coordinateVerdict p then roomVerdict (o .count) (o .space)
+
+  -- all is what the call's checks answer, but for the room
+  pub given-refuses : (v w : Verdict) {n : ℕ} {NoPen Bad : Type 0} → Says v n NoPen → Says w 2 Bad → Placed p v → Placed p w →
+      (all : Verdict) → (all then roomVerdict (o .count) (o .space)) ≡ After v w → Refuses n NoPen Bad p columns rows j (o .count) (o .space) (o .before) (given all o)
+  given-refuses v w s t f g all e =
+      let last = all then roomVerdict (o .count) (o .space) in
+      let number-is = settled-number last o ∙ ap numberOf e in
+      let place-is = settled-place last o ∙ ap placeOf e in
+      let placed = then-placed p v _ f (then-placed p w _ g (after-placed p columns rows j (o .count) (o .space))) in record {
+        exactly = λ k. let x = says-first s _ _ (says-first t _ _ (after-path p columns rows j (o .count) (o .space))) k in ((λ h. x .0 (sym number-is ∙ h)), λ h. number-is ∙ x .1 h);
+        first = λ h. subst (FirstBad p) (sym place-is) (placed .0 (sym number-is ∙ h));
+        nowhere = λ h. place-is ∙ placed .1 (λ q. h (number-is ∙ q));
+        none = λ h. settled-none last o h .0;
+        kept = λ h. settled-none last o h .1;
+      }
+
+  -- a row call whose path is coordinates
+  pub call-refuses : (v : Verdict) {n : ℕ} {NoPen : Type 0} → Says v n NoPen → Placed p v →
+      Refuses n NoPen (BadPath p) p columns rows j (o .count) (o .space) (o .before) (given (callVerdict v p columns rows j) o)
+  call-refuses v s f =
+      given-refuses v (pathVerdict p) s (path-says p) f (unless-placed p (pathTest (length p)) path (λ e. omega arith)) (callVerdict v p columns rows j)
+      (in-order v (pathVerdict p) (rasterVerdict columns rows) (rowVerdict rows j) (coordinateVerdict p) _)
