@@ -174,9 +174,17 @@ pub unless-placed : (p : List ℤ) (t : Bool) (r : Refusal) → ¬ (number r ≡
 unless-placed p true r h = ((λ e. absurd (omega (arith, e))), λ e. refl)
 unless-placed p false r h = ((λ e. absurd (h e)), λ e. refl)
 
+-- a check that passes, or refuses with another number and the place 0
+pub zero-placed : (p : List ℤ) (v : Verdict) (n : ℕ) → ¬ (n ≡ 3) → (v ≡ Passed) ⊎ (v ≡ Refused n 0) → Placed p v
+zero-placed p v n h (inl e) = rw e ((λ q. absurd (omega (arith, q))), λ q. refl)
+zero-placed p v n h (inr e) = rw e ((λ q. absurd (h q)), λ q. refl)
+
 pub then-placed : (p : List ℤ) (v w : Verdict) → Placed p v → Placed p w → Placed p (v then w)
 then-placed p Passed w f g = g
 then-placed p (Refused n place) w f g = f
+
+pub path-placed : (p : List ℤ) → Placed p (pathVerdict p)
+path-placed p = unless-placed p (pathTest (length p)) path (λ e. omega arith)
 
 coordinate-placed : (p : List ℤ) → Placed p (coordinateVerdict p)
 coordinate-placed p = go (coordinateVerdict p) refl (coordinate-says p)
@@ -216,5 +224,5 @@ module _ {A : Type 0} (o : Offer A) (p : List ℤ) (columns rows j : ℕ) where
   pub call-refuses : (v : Verdict) {n : ℕ} {NoPen : Type 0} → Says v n NoPen → Placed p v →
       Refuses n NoPen (BadPath p) p columns rows j (o .count) (o .space) (o .before) (given (callVerdict v p columns rows j) o)
   call-refuses v s f =
-      given-refuses v (pathVerdict p) s (path-says p) f (unless-placed p (pathTest (length p)) path (λ e. omega arith)) (callVerdict v p columns rows j)
+      given-refuses v (pathVerdict p) s (path-says p) f (path-placed p) (callVerdict v p columns rows j)
       (in-order v (pathVerdict p) (rasterVerdict columns rows) (rowVerdict rows j) (coordinateVerdict p) _)
