@@ -8,6 +8,7 @@
 -- c is quoted from the demand, "the greatest v times x minus u times y over the pen's corners": some corner attains it, and no corner exceeds it.
 use Prim.Native.Nat.{ℕ, zero, suc, _+_, _<_}
 use mathlib.Core.Path.{_≡_}
+use mathlib.Core.Logic.{_⊎_}
 use mathlib.Core.List.{List, [], _∷_}
 use lib.IntN.{ℤ, pos, _-ℤ_, _*ℤ_}
 use Rattle.integers.specs.Orders.{_≼_, _≺_}
@@ -15,7 +16,7 @@ use Rattle.integers.specs.Count.{_∈_, Number}
 use Rattle.plane.specs.Point.{Pt}
 use Rattle.setting.specs.Setting.{Dx, Dy}
 use Rattle.stroke.specs.Sweep.{Seg}
-use Rattle.stroke.specs.Runs.{Run, holds, Covers}
+use Rattle.stroke.specs.Runs.{Run, holds}
 use Rattle.stroke.specs.Weight.{BlackPixel, Direction, InsideRow, InsideColumn, InRows}
 use Rattle.demands.specs.Reports.{Reports}
 use Rattle.demands.specs.Demand2.{Pens}
@@ -52,15 +53,20 @@ RunsHold =
     (cs : List Pt) (p : Pens cs) (g : Seg) (u : ℤ) (v c columns rows j : ℕ) → MiddleRows cs p g u v c columns j →
     (runs : ℕ → List Run) → Calls cs g columns rows v (λ k. j + k) runs → sumOf (λ k. holds (runs k)) v ≡ c
 
+-- "covers the columns from left to right, both included"
+abbrev pub CoversColumn : List Run → ℤ → Type 0
+CoversColumn [] i = ⊥
+CoversColumn (r ∷ rs) i = ((pos (r .left) ≼ i) × (i ≼ pos (r .right))) ⊎ CoversColumn rs i
+
 -- a column of a level stroke: it is far enough inside, and the raster cuts nothing off in it
-pub record MiddleColumn (cs : List Pt) (p : Pens cs) (g : Seg) (columns rows i : ℕ) : Type 0 where
+pub record MiddleColumn (cs : List Pt) (p : Pens cs) (g : Seg) (columns rows : ℕ) (i : ℤ) : Type 0 where
   pub level : g .from .y ≡ g .to .y
   pub differs : ¬ (g .from .x ≡ g .to .x)
-  pub inside : InsideColumn g (pos (Dx (p .setting))) (pos i)
-  pub uncut : (j : ℤ) → BlackPixel cs g (record { column = pos i; row = j }) → (pos 0 ≼ pos i) × (pos i ≺ pos columns) × (pos 0 ≼ j) × (j ≺ pos rows)
+  pub inside : InsideColumn g (pos (Dx (p .setting))) i
+  pub uncut : (j : ℤ) → BlackPixel cs g (record { column = i; row = j }) → (pos 0 ≼ i) × (i ≺ pos columns) × (pos 0 ≼ j) × (j ≺ pos rows)
 
 -- "The level part is likewise about the answers for all rows of the raster together": they cover the column in exactly as many rows as the pen is high
 abbrev pub LevelRows : Type 0
 LevelRows =
-    (cs : List Pt) (p : Pens cs) (g : Seg) (columns rows i : ℕ) → MiddleColumn cs p g columns rows i →
-    (runs : ℕ → List Run) → Calls cs g columns rows rows (λ k. k) runs → Number (λ j. (j < rows) × Covers (runs j) i) (Dy (p .setting))
+    (cs : List Pt) (p : Pens cs) (g : Seg) (columns rows : ℕ) (i : ℤ) → MiddleColumn cs p g columns rows i →
+    (runs : ℕ → List Run) → Calls cs g columns rows rows (λ k. k) runs → Number (λ j. (j < rows) × CoversColumn (runs j) i) (Dy (p .setting))
