@@ -35,7 +35,7 @@ number-fails n e = go (leb apertureMin n) refl e
 held-good : (t : Table) (n : ℕ) → isHeld t n ≡ true → ¬ NoPen t n
 held-good t n e b = let h = held-parts t n e in elim b [ inl c ↦ number-good n (h .0) c | inr c ↦ clash (h .1) c ]
 
-held-fails : (t : Table) (n : ℕ) → isHeld t n ≡ false → NoPen t n
+pub held-fails : (t : Table) (n : ℕ) → isHeld t n ≡ false → NoPen t n
 held-fails t n e = go (isNumber n) refl e
   where
     go : (b : Bool) → isNumber n ≡ b → (b && placeOf t n .used) ≡ false → NoPen t n

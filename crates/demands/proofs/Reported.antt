@@ -68,7 +68,7 @@ setting-not-zero : (c : Checked) → NotZero (checkedVerdict c)
 setting-not-zero (checked·.Taken σ) = tt
 setting-not-zero checked·.Refused = omega arith
 
-host-not-zero : (σ : Setting) (bytes : List ℕ) (columns rows j : ℕ) → NotZero (hostVerdict σ bytes columns rows j)
+pub host-not-zero : (σ : Setting) (bytes : List ℕ) (columns rows j : ℕ) → NotZero (hostVerdict σ bytes columns rows j)
 host-not-zero σ bytes columns rows j =
     then-not-zero (checkedVerdict (checked σ) then lengthVerdict bytes) _
     (then-not-zero (checkedVerdict (checked σ)) (lengthVerdict bytes) (setting-not-zero (checked σ)) (unless-not-zero (eqb (length bytes % 4) 0) path))
