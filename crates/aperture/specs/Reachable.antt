@@ -1,15 +1,12 @@
 -- Document 01: "only defining and removing change it. Statements speak of tables so made".
 use Prim.Native.Nat.{ℕ}
 use mathlib.Core.Path.{_≡_}
-use mathlib.Core.Bool.{true, false}
-use lib.ListN.{getD}
+use mathlib.Core.Bool.{true}
 use Rattle.setting.specs.declared.Setting.{Setting}
 use Rattle.setting.specs.Setting.{Taken}
-use Rattle.pen.specs.Polygon.{pen}
-use Rattle.pen.specs.Answer.{penOf}
 use Rattle.aperture.specs.declared.Place.{Place}
 use Rattle.aperture.specs.declared.Table.{Table}
-use Rattle.aperture.specs.Table.{vacant, holding, isNumber, isHeld, empty, placeOf, withPlace, defined, removed}
+use Rattle.aperture.specs.Table.{vacant, holding, isNumber, empty, placeOf, defined, removed}
 
 -- the tables that the calls make from the empty one
 pub data Reachable : Table → Type 0 where

@@ -1,10 +1,9 @@
 -- Document 01, "Units and sizes" and "Refusal numbers": the table of apertures.
 use Prim.Native.Nat.{ℕ, _-_}
 use mathlib.Core.Bool.{Bool, true, false, not, _&&_}
-use mathlib.Core.List.{List, [], _∷_}
+use mathlib.Core.List.{List, []}
 use lib.ListN.{getD, set, replicate}
 use Rattle.setting.specs.declared.Setting.{Setting}
-use Rattle.pen.specs.declared.Pen.{Pen}
 use Rattle.limits.specs.Sizes.{within, apertureMin, apertureMax, places}
 use Rattle.limits.specs.Refusal.{number, aperture, inUse, refuse, unless, _then_}
 use Rattle.limits.specs.declared.Verdict.{Verdict}

@@ -26,10 +26,8 @@ fn put_rows(
 )
     requires zeros { ⌜ now part ≡ replicate (length (now part)) 0 ⌝ }
     requires room { ⌜ length (now out) ≡ sheet .rows * length (now part) ⌝ }
-    ensures {
-        λ _. ⌜ now (out .exit)
-            ≡ topFirst (sheet .rows) (rowOf (drawingOf sheet (now (apertures .entry)) (now (starts .entry)) (now (entries .entry))) (sheet .columns) (sheet .rows) (length (now (part .entry)))) ⌝
-    }
+    ensures { λ _. ⌜ now (out .exit)
+        ≡ topFirst (sheet .rows) (rowOf (drawingOf sheet (now (apertures .entry)) (now (starts .entry)) (now (entries .entry))) (sheet .columns) (sheet .rows) (length (now (part .entry)))) ⌝ }
 {
     let width = part.len();
     let mut at = 0;
@@ -37,7 +35,15 @@ fn put_rows(
     while row > 0 {
         row -= 1;
         let end = at + width;
-        draw_row(sheet, apertures, starts, entries, row, part, &mut out[at..end]);
+        draw_row(
+            sheet,
+            apertures,
+            starts,
+            entries,
+            row,
+            part,
+            &mut out[at..end],
+        );
         at = end;
     }
 }
@@ -61,21 +67,20 @@ pub fn length_of(columns: u64, rows: u64) -> usize
 }
 
 // Fills out with the whole file.
-pub fn put_file(
-    sheet: Sheet,
-    apertures: &[u64],
-    starts: &[usize],
-    entries: &[i32],
-    out: &mut [u8],
-)
+pub fn put_file(sheet: Sheet, apertures: &[u64], starts: &[usize], entries: &[i32], out: &mut [u8])
     requires raster { ⌜ Raster (sheet .columns) (sheet .rows) ⌝ }
     requires room { ⌜ length (now out) ≡ filmLength (sheet .columns) (sheet .rows) ⌝ }
-    ensures {
-        λ _. ⌜ now (out .exit) ≡ film (drawingOf sheet (now (apertures .entry)) (now (starts .entry)) (now (entries .entry))) (sheet .columns) (sheet .rows) ⌝
-    }
+    ensures { λ _. ⌜ now (out .exit) ≡ film (drawingOf sheet (now (apertures .entry)) (now (starts .entry)) (now (entries .entry))) (sheet .columns) (sheet .rows) ⌝ }
 {
     let width = row_length(sheet.columns);
     let at = pbm::put_header(out, sheet.columns, sheet.rows);
     let mut part = [0u8; ROW_MAX];
-    put_rows(sheet, apertures, starts, entries, &mut part[..width], &mut out[at..]);
+    put_rows(
+        sheet,
+        apertures,
+        starts,
+        entries,
+        &mut part[..width],
+        &mut out[at..],
+    );
 }

@@ -53,10 +53,8 @@ pub fn put_film(
     rows: u64,
     out: &mut [u8],
 ) -> Answer
-    ensures {
-        λ r. ⌜ record { answer = r; list = now (out .exit) }
-            ≡ filmPut (record { table = table; apertures = now (apertures .entry); starts = now (starts .entry); entries = now (entries .entry) }) columns rows (now (out .entry)) ⌝
-    }
+    ensures { λ r. ⌜ record { answer = r; list = now (out .exit) }
+        ≡ filmPut (record { table = table; apertures = now (apertures .entry); starts = now (starts .entry); entries = now (entries .entry) }) columns rows (now (out .entry)) ⌝ }
 {
     let of_raster = checks::raster_check(columns, rows);
     let Verdict::Passed = of_raster else {

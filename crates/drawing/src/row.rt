@@ -34,14 +34,7 @@ fn lay_over(dst: &mut [u8], src: &[u8])
 }
 
 // Lays a stroke's row over the bytes. The part is zeros, before and after.
-fn add_stroke(
-    sheet: Sheet,
-    number: u64,
-    path: &[i32],
-    row: u64,
-    part: &mut [u8],
-    bytes: &mut [u8],
-)
+fn add_stroke(sheet: Sheet, number: u64, path: &[i32], row: u64, part: &mut [u8], bytes: &mut [u8])
     requires { ⌜ now part ≡ replicate (length (now bytes)) 0 ⌝ }
     ensures zeros { λ _. ⌜ now (part .exit) ≡ replicate (length (now (bytes .entry))) 0 ⌝ }
     ensures laid { λ _. ⌜ now (bytes .exit) ≡ added (sheet .table) number (now (path .entry)) (sheet .columns) (sheet .rows) row (now (bytes .entry)) ⌝ }
@@ -81,10 +74,8 @@ pub fn draw_row(
 )
     requires { ⌜ now part ≡ replicate (length (now bytes)) 0 ⌝ }
     ensures zeros { λ _. ⌜ now (part .exit) ≡ replicate (length (now (bytes .entry))) 0 ⌝ }
-    ensures drawn {
-        λ _. ⌜ now (bytes .exit)
-            ≡ rowOf (drawingOf sheet (now (apertures .entry)) (now (starts .entry)) (now (entries .entry))) (sheet .columns) (sheet .rows) (length (now (bytes .entry))) row ⌝
-    }
+    ensures drawn { λ _. ⌜ now (bytes .exit)
+        ≡ rowOf (drawingOf sheet (now (apertures .entry)) (now (starts .entry)) (now (entries .entry))) (sheet .columns) (sheet .rows) (length (now (bytes .entry))) row ⌝ }
 {
     clear(bytes);
     let mut k = 0;

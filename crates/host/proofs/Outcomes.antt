@@ -11,7 +11,7 @@ use lib.ListN.{length}
 use Rattle.limits.specs.Sizes.{entriesMax, rasterMax}
 use Rattle.limits.specs.declared.Verdict.{Verdict}
 use Rattle.limits.specs.declared.Verdict.the-variants.{Passed, Refused}
-use Rattle.limits.specs.Refusal.{room, refuse, unless}
+use Rattle.limits.specs.Refusal.{room, unless}
 use Rattle.wire.specs.Write.{encoded}
 use Rattle.wire.proofs.Laws.{encoded-none}
 use Rattle.plane.specs.Point.{Pt}

@@ -4,9 +4,7 @@ use mathlib.Core.Path.{_≡_, sym, ap, _∙_}
 use mathlib.Core.Bool.{true, false}
 use mathlib.Core.List.{List}
 use Rattle.limits.specs.Sizes.{penMax}
-use Rattle.limits.specs.declared.Verdict.the-variants.{Refused}
-use Rattle.wire.specs.Read.{entriesOf}
-use Rattle.plane.specs.Point.{Pt}
+use Rattle.limits.specs.Refusal.{setting, refuse}
 use Rattle.setting.specs.declared.Setting.{Setting}
 use Rattle.setting.specs.declared.Checked.the-variants as checked·
 use Rattle.setting.specs.Answer.{checked}
@@ -18,7 +16,7 @@ use Rattle.pen.specs.Answer.{penCorners, built}
 use Rattle.pen.proofs.Laid.{corners-back}
 use Rattle.pen.proofs.Answers.{pen-built}
 use Rattle.checks.specs.Answer.{answerOf}
-use Rattle.host.specs.Host.{coded, Outcome, hostRow, hostPackedRow}
+use Rattle.host.specs.Host.{coded, hostRow, hostPackedRow}
 use Rattle.host.specs.Call.{runsWith, packedWith, bytesCall}
 
 -- the pen that is built of a setting that was taken is that setting's
@@ -30,11 +28,11 @@ built-taken σ s r e f =
 -- ---- the two calls by their cases
 module _ (σ : Setting) (path : List ℕ) (columns rows j : ℕ) (b : List ℕ) where
   -- refusal 1
-  pub row-refused : {x : ℕ} → checked σ ≡ checked·.Refused → x ≡ coded (answerOf (Refused 1 0)) → record { answer = x; bytes = b } ≡ hostRow σ path columns rows j b
+  pub row-refused : {x : ℕ} → checked σ ≡ checked·.Refused → x ≡ coded (answerOf (refuse setting 0)) → record { answer = x; bytes = b } ≡ hostRow σ path columns rows j b
   unfolding hostRow
   row-refused e f = rw (hostRow, e, f)
 
-  pub packed-refused : {x : ℕ} → checked σ ≡ checked·.Refused → x ≡ coded (answerOf (Refused 1 0)) → record { answer = x; bytes = b } ≡ hostPackedRow σ path columns rows j b
+  pub packed-refused : {x : ℕ} → checked σ ≡ checked·.Refused → x ≡ coded (answerOf (refuse setting 0)) → record { answer = x; bytes = b } ≡ hostPackedRow σ path columns rows j b
   unfolding hostPackedRow
   packed-refused e f = rw (hostPackedRow, e, f)
 

@@ -12,7 +12,7 @@ use Rattle.integers.proofs.Tests.{and-both, and-false}
 use Rattle.limits.specs.Refusal.{Refusal, number, path, raster, row, coordinate, refuse, unless, _then_}
 use Rattle.limits.specs.Sizes.{entriesMax, inRange, isSize}
 use Rattle.limits.proofs.Verdicts.{not-passed}
-use Rattle.checks.specs.Checks.{pathVerdict, rasterVerdict, rowVerdict, coordinateFrom, coordinateVerdict, verdict}
+use Rattle.checks.specs.Checks.{isLength, pathVerdict, rasterVerdict, rowVerdict, coordinateFrom, coordinateVerdict, verdict}
 use Rattle.limits.specs.declared.Verdict.{Verdict}
 use Rattle.limits.specs.declared.Verdict.the-variants.{Passed, Refused}
 use Rattle.wire.specs.Read.{entriesOf}
@@ -21,14 +21,16 @@ use Rattle.host.specs.Call.{bytesVerdict}
 
 -- ---- the length of the bytes
 -- a path with too many entries is refused, whatever else is wrong
-too-long : (p : List ℤ) (columns rows j : ℕ) → entriesMax < length p → verdict p columns rows j ≡ Refused 2 0
-too-long p columns rows j h = rw (and-false (leb 1 (length p)) (eqb (length p % 2) 0 && leb (length p) entriesMax) (and-false (eqb (length p % 2) 0) (leb (length p) entriesMax) (lt-leb (length p) entriesMax h)))
+too-long : (p : List ℤ) (columns rows j : ℕ) → entriesMax < length p → verdict p columns rows j ≡ refuse path 0
+too-long p columns rows j h =
+    let long = and-false (eqb (length p % 2) 0) (leb (length p) entriesMax) (lt-leb (length p) entriesMax h) in
+    rw (and-false (leb 1 (length p)) (eqb (length p % 2) 0 && leb (length p) entriesMax) long)
 
 -- the check of the length refuses bytes that are no path, and no path's bytes
-pub bytes-refused : (b : List ℕ) (columns rows j : ℕ) → (eqb (length b % 4) 0 && leb (length b) (4 * entriesMax)) ≡ false → bytesVerdict b columns rows j ≡ Refused 2 0
+pub bytes-refused : (b : List ℕ) (columns rows j : ℕ) → (eqb (length b % 4) 0 && leb (length b) (4 * entriesMax)) ≡ false → bytesVerdict b columns rows j ≡ refuse path 0
 bytes-refused b columns rows j e = go (eqb (length b % 4) 0) refl e
   where
-    go : (t : Bool) → eqb (length b % 4) 0 ≡ t → (t && leb (length b) (4 * entriesMax)) ≡ false → (unless t path then verdict (entriesOf b) columns rows j) ≡ Refused 2 0
+    go : (t : Bool) → eqb (length b % 4) 0 ≡ t → (t && leb (length b) (4 * entriesMax)) ≡ false → (unless t path then verdict (entriesOf b) columns rows j) ≡ refuse path 0
     go false q e = refl
     go true q e = too-long (entriesOf b) columns rows j (omega (arith, entries-length b, leb-false (length b) (4 * entriesMax) e, eqb-true (length b % 4) 0 q))
 
@@ -66,15 +68,17 @@ small-then m Passed v s t = t refl
 small-then m (Refused n place) v s t = s
 
 path-short : (p : List ℤ) → pathVerdict p ≡ Passed → length p ≤ entriesMax
-path-short p e = go (leb 1 (length p) && (eqb (length p % 2) 0 && leb (length p) entriesMax)) refl e
+path-short p e = go (isLength (length p)) refl e
   where
-    go : (t : Bool) → (leb 1 (length p) && (eqb (length p % 2) 0 && leb (length p) entriesMax)) ≡ t → unless t path ≡ Passed → length p ≤ entriesMax
-    go true q e = leb-true (length p) entriesMax (and-both (eqb (length p % 2) 0) (leb (length p) entriesMax) (and-both (leb 1 (length p)) (eqb (length p % 2) 0 && leb (length p) entriesMax) q .1) .1)
+    go : (t : Bool) → isLength (length p) ≡ t → unless t path ≡ Passed → length p ≤ entriesMax
+    go true q e =
+        let some = and-both (leb 1 (length p)) (eqb (length p % 2) 0 && leb (length p) entriesMax) q in
+        leb-true (length p) entriesMax (and-both (eqb (length p % 2) 0) (leb (length p) entriesMax) (some .1) .1)
     go false q e = not-passed e
 
 pub small-verdict : (p : List ℤ) (columns rows j : ℕ) → Small entriesMax (verdict p columns rows j)
 small-verdict p columns rows j =
-    small-then entriesMax (pathVerdict p) (rasterVerdict columns rows then rowVerdict rows j then coordinateVerdict p) (small-unless (leb 1 (length p) && (eqb (length p % 2) 0 && leb (length p) entriesMax)) path entriesMax (omega arith) (omega arith))
+    small-then entriesMax (pathVerdict p) (rasterVerdict columns rows then rowVerdict rows j then coordinateVerdict p) (small-unless (isLength (length p)) path entriesMax (omega arith) (omega arith))
     (λ e. small-then entriesMax (rasterVerdict columns rows) (rowVerdict rows j then coordinateVerdict p) (small-unless (isSize columns && isSize rows) raster entriesMax (omega arith) (omega arith))
     (λ _. small-then entriesMax (rowVerdict rows j) (coordinateVerdict p) (small-unless (ltb j rows) row entriesMax (omega arith) (omega arith)) (λ _. short (path-short p e))))
   where

@@ -15,7 +15,7 @@ use Rattle.stroke.specs.Sweep.{pathPoints}
 use Rattle.stroke.specs.Runs.{rowRuns}
 use Rattle.checks.specs.declared.Answer.{Answer}
 use Rattle.checks.specs.Checks.{verdict, callVerdict}
-use Rattle.checks.specs.Answer.{Offer, answerOf, given}
+use Rattle.checks.specs.Answer.{answerOf, given}
 use Rattle.packed.specs.Packed.{packedOffer}
 use Rattle.host.specs.declared.answer.Call.{Call}
 use Rattle.host.specs.Host.{lengthVerdict, coded, Outcome, told, runBytesOffer}

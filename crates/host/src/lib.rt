@@ -23,9 +23,7 @@ pub extern "C" fn zimarolfo_row(
     row: u64,
     runs: &mut [u8],
 ) -> u64
-    ensures {
-        λ r. ⌜ record { answer = r; bytes = now (runs .exit) } ≡ hostRow (record { w = w; p = p; q = q }) (now (path .entry)) columns rows row (now (runs .entry)) ⌝
-    }
+    ensures { λ r. ⌜ record { answer = r; bytes = now (runs .exit) } ≡ hostRow (record { w = w; p = p; q = q }) (now (path .entry)) columns rows row (now (runs .entry)) ⌝ }
 {
     let Checked::Taken(s) = setting::check(w, p, q) else {
         return answer::refused(Verdict::Refused(limits::BAD_SETTING, 0));
@@ -54,10 +52,8 @@ pub extern "C" fn zimarolfo_packed_row(
     row: u64,
     bytes: &mut [u8],
 ) -> u64
-    ensures {
-        λ r. ⌜ record { answer = r; bytes = now (bytes .exit) }
-            ≡ hostPackedRow (record { w = w; p = p; q = q }) (now (path .entry)) columns rows row (now (bytes .entry)) ⌝
-    }
+    ensures { λ r. ⌜ record { answer = r; bytes = now (bytes .exit) }
+        ≡ hostPackedRow (record { w = w; p = p; q = q }) (now (path .entry)) columns rows row (now (bytes .entry)) ⌝ }
 {
     let Checked::Taken(s) = setting::check(w, p, q) else {
         return answer::refused(Verdict::Refused(limits::BAD_SETTING, 0));

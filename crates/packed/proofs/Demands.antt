@@ -8,7 +8,7 @@ use Rattle.setting.specs.declared.Setting.{Setting}
 use Rattle.pen.specs.Polygon.{pen}
 use Rattle.aperture.specs.declared.Table.{Table}
 use Rattle.aperture.specs.Reachable.{Holds}
-use Rattle.aperture.proofs.Held.{held, held-corners}
+use Rattle.aperture.proofs.Held.{holds-found, held-corners}
 use Rattle.checks.specs.declared.Answer.{Answer}
 use Rattle.checks.specs.Checks.{verdict}
 use Rattle.checks.proofs.Verdicts.{verdict-not-zero}
@@ -19,7 +19,7 @@ use Rattle.packed.specs.Packed.{packedLength, packedOver, packedOffer, p
 pub packed-call-is : {t : Table} {n : ℕ} {σ : Setting} → Holds t n σ → (p : List ℤ) (columns rows j : ℕ) (l : List ℕ) →
     packedCall t n p columns rows j l ≡ packResult (pen σ) p columns rows j l
 unfolding packedCall packResult
-packed-call-is {t} {n} {σ} h p columns rows j l = rw (held h, packedCall) (ap (λ (cs : List Pt). packResult cs p columns rows j l) (held-corners h))
+packed-call-is {t} {n} {σ} h p columns rows j l = rw (holds-found h, packedCall) (ap (λ (cs : List Pt). packResult cs p columns rows j l) (held-corners h))
 
 -- ---- an answer 0 comes from a success
 pub record Stored (cs : List Pt) (p : List ℤ) (columns j : ℕ) (before : List ℕ) (answer : Answer) (after : List ℕ) : Type 0 where

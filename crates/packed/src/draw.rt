@@ -28,9 +28,7 @@ fn pack_several<'a>(
 )
     requires room { ⌜ packedLength columns ≤ length (now bytes) ⌝ }
     requires drawable { ⌜ Drawable (now path) columns row ⌝ }
-    ensures {
-        λ r. ⌜ now (bytes .exit) ≡ packedOver (corners count (now (xs .entry)) (now (ys .entry))) (now (path .entry)) columns row (now (bytes .entry)) ⌝
-    }
+    ensures { λ r. ⌜ now (bytes .exit) ≡ packedOver (corners count (now (xs .entry)) (now (ys .entry))) (now (path .entry)) columns row (now (bytes .entry)) ⌝ }
 {
     let mut far: [u16; limits::RASTER_MAX] = [0; limits::RASTER_MAX];
     let b = cuts::put_together(&mut far, xs, ys, count, path, columns, row);
@@ -49,9 +47,7 @@ fn pack_row<'a>(
 )
     requires room { ⌜ packedLength columns ≤ length (now bytes) ⌝ }
     requires drawable { ⌜ Drawable (now path) columns row ⌝ }
-    ensures {
-        λ r. ⌜ now (bytes .exit) ≡ packedOver (corners count (now (xs .entry)) (now (ys .entry))) (now (path .entry)) columns row (now (bytes .entry)) ⌝
-    }
+    ensures { λ r. ⌜ now (bytes .exit) ≡ packedOver (corners count (now (xs .entry)) (now (ys .entry))) (now (path .entry)) columns row (now (bytes .entry)) ⌝ }
 {
     match cuts::touching(xs, ys, count, path, columns, row) {
         Touch::Untouched => pack_none(bytes, columns),
@@ -71,10 +67,8 @@ pub fn draw_packed<'a>(
     row: u64,
 ) -> Answer
     requires { ⌜ Drawable (now path) columns row ⌝ }
-    ensures {
-        λ r. ⌜ record { answer = r; list = now (bytes .exit) }
-            ≡ packedGiven Passed (corners count (now (xs .entry)) (now (ys .entry))) (now (path .entry)) columns row (now (bytes .entry)) ⌝
-    }
+    ensures { λ r. ⌜ record { answer = r; list = now (bytes .exit) }
+        ≡ packedGiven Passed (corners count (now (xs .entry)) (now (ys .entry))) (now (path .entry)) columns row (now (bytes .entry)) ⌝ }
 {
     let length = length_of(columns);
     let room = checks::room_check(length, bytes.len());

@@ -25,9 +25,7 @@ pub fn packed_row(
     row: u64,
     bytes: &mut [u8],
 ) -> Answer
-    ensures {
-        λ r. ⌜ record { answer = r; list = now (bytes .exit) } ≡ packedCall table number (now (path .entry)) columns rows row (now (bytes .entry)) ⌝
-    }
+    ensures { λ r. ⌜ record { answer = r; list = now (bytes .exit) } ≡ packedCall table number (now (path .entry)) columns rows row (now (bytes .entry)) ⌝ }
 {
     let Looked::At(i) = aperture::look_up(table, number) else {
         return checks::report(Verdict::Refused(limits::NO_APERTURE, 0));
@@ -45,9 +43,7 @@ pub fn packed_for(
     row: u64,
     bytes: &mut [u8],
 ) -> Answer
-    ensures {
-        λ r. ⌜ record { answer = r; list = now (bytes .exit) } ≡ packResult (penCorners pen) (now (path .entry)) columns rows row (now (bytes .entry)) ⌝
-    }
+    ensures { λ r. ⌜ record { answer = r; list = now (bytes .exit) } ≡ packResult (penCorners pen) (now (path .entry)) columns rows row (now (bytes .entry)) ⌝ }
 {
     let checked = checks::check(path, columns, rows, row);
     let Verdict::Passed = checked else {

@@ -1,5 +1,5 @@
 -- The records written from the plain call's answer, over a list of its own, are those of the call over the numbers of the records themselves.
-use Prim.Native.Nat.{ℕ, _*_, _/_, _≤_, _<_}
+use Prim.Native.Nat.{ℕ, _*_, _/_, _≤_}
 use native.Mathlib.Omega.{arith}
 use mathlib.Core.Path.{_≡_, refl, sym, ap, subst, _∙_}
 use mathlib.Core.Bool.{Bool, true, false}
@@ -10,7 +10,7 @@ use lib.ListN.{length, take, drop, take-append-drop}
 use lib.Seq.{length-take-le}
 use lib.IntN.{ℤ}
 use Rattle.limits.specs.Sizes.{rasterMax}
-use Rattle.limits.specs.Refusal.{room, unless, refuse}
+use Rattle.limits.specs.Refusal.{room, refuse}
 use Rattle.limits.specs.declared.Verdict.{Verdict}
 use Rattle.limits.specs.declared.Verdict.the-variants.{Passed, Refused}
 use Rattle.stroke.specs.Runs as stroke
@@ -91,12 +91,12 @@ module _ (rs : List stroke.Run) (o : List Run) (l₀ l : List ℕ) (a : Answer) 
       go true q =
           let h = leb-true (length rs) (length o) q in
           let fits : given Passed (runsOffer rs front) ≡ settled Passed (runsOffer rs front) =
-              rw (front-long, le-leb (length rs) (entries (length o) / 2) (entries-enough (length rs) (length o) few h)) in
+          rw (front-long, le-leb (length rs) (entries (length o) / 2) (entries-enough (length rs) (length o) few h)) in
           rw q (drawn-fills rs o l _ few h (ap (λ (r : Result ℕ). r .answer) (e ∙ fits)) (begins rs (entries (length o)) l _ (ap (λ (r : Result ℕ). r .list) (e ∙ fits))))
       go false q =
           let h = leb-false (length rs) (length o) q in
           let exceeds : given Passed (runsOffer rs front) ≡ settled (refuse room 0) (runsOffer rs front) =
-              rw (front-long, lt-leb (length rs) (entries (length o) / 2) (entries-short (length rs) (length o) few h)) in
+          rw (front-long, lt-leb (length rs) (entries (length o) / 2) (entries-short (length rs) (length o) few h)) in
           rw q (refused-fills 7 0 o l (ap (λ (r : Result ℕ). r .answer) (e ∙ exceeds)))
 
 -- what `flat_runs` promises is what `write` needs, whatever the checks answer

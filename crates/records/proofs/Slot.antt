@@ -43,7 +43,8 @@ module _ {M : Type 1} (𝓤 : URA M) (H : Heap 𝓤) (A : Atoms 𝓤) (W : Given
 
   module _ (b : ℕ) where
     -- which numbers they are is forgotten: nothing depends on it, and n zeros are not to be written out
-    pub cleared : ent 𝓤 (sep 𝓤 (sem 𝓤 H A (fat fullShare (tyArray (tyInt w16) n) b 0 (zeros n))) (sem 𝓤 H A (Array u16 n .own (replicate n 0) (zeros n ∷ [])))) (ex 𝓤 (λ (xs : List ℕ). sem 𝓤 H A (arr-parts (shares u16) n .part fullShare xs b 0)))
+    pub cleared : ent 𝓤 (sep 𝓤 (sem 𝓤 H A (fat fullShare (tyArray (tyInt w16) n) b 0 (zeros n))) (sem 𝓤 H A (Array u16 n .own (replicate n 0) (zeros n ∷ []))))
+        (ex 𝓤 (λ (xs : List ℕ). sem 𝓤 H A (arr-parts (shares u16) n .part fullShare xs b 0)))
     cleared =
         qed W (‵ (fat fullShare (tyArray (tyInt w16) n) b 0 (zeros n)) ∷ ‵ (Array u16 n .own (replicate n 0) (zeros n ∷ [])) ∷ []) ∵
         use2 W (‵ (partAt (Array u16 n) fullShare (replicate n 0) b 0)) (part-in 𝓤 H A W (Array u16 n) refl fullShare (replicate n 0) b 0 (zeros n)) $
@@ -67,5 +68,6 @@ clears {𝓤 = 𝓤} {H = H} {A = A} {K = K} {W = W} {E = E} t n i b e k =
     assigns t (rep t n (lit t tt)) (subst (Finds K W _ E (place i [])) e (from t (stop t))) (init t 1 refl (typed-zeros 𝓤 H A W n is)) $
     move t (1 ∷ 0 ∷ []) $ use2 W (some (λ (xs : List ℕ). ‵ (arr-parts (shares u16) n .part fullShare xs b 0))) (cleared 𝓤 H A W n b) $ pick t k)
 
-pub big-lit : {M : Type 1} {𝓤 : URA M} {H : Heap 𝓤} {A : Atoms 𝓤} {K : Type 0} {W : Given 𝓤 H A} {Γ : List (Item 𝓤)} {E : Env 𝓤 H} → K → {w : Width} {n : ℕ} → Fits w n → Opd K W Γ E (intBig w n) (vint w n)
+pub big-lit : {M : Type 1} {𝓤 : URA M} {H : Heap 𝓤} {A : Atoms 𝓤} {K : Type 0} {W : Given 𝓤 H A} {Γ : List (Item 𝓤)} {E : Env 𝓤 H} → K →
+    {w : Width} {n : ℕ} → Fits w n → Opd K W Γ E (intBig w n) (vint w n)
 big-lit {𝓤 = 𝓤} t {w} {n} z = record { go = λ Kt h. via 𝓤 (Kt (vint w n)) h (guardI 𝓤 (Fits w n) (Kt (vint w n)) z) }

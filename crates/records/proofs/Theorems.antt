@@ -12,7 +12,7 @@ use Rattle.checks.specs.Answer.{done, Result, given}
 use Rattle.row.specs.Answer.{runsOffer}
 use Rattle.records.specs.declared.Run.{Run}
 use Rattle.records.specs.Records.{numbers}
-use Rattle.records.specs.Theorems.{SameAsPlain, Spelt, recordsOffer, spelt}
+use Rattle.records.specs.Theorems.{SameAsPlain, SpeltOut, recordsOffer, spelt}
 use Rattle.records.proofs.Numbers.{listed-numbers}
 use Rattle.records.proofs.Cases.{callChecks, callRuns, call-given}
 use Rattle.records.proofs.Plain.{half, records-given}
@@ -35,6 +35,6 @@ same-as-plain t n path columns rows j before after answer e =
     ∙ given-numbers (callChecks t n path columns rows j) (callRuns t n path columns rows j) before
     ∙ sym (call-given t n path columns rows j (numbers before))
 
-pub spelt-out : Spelt
+pub spelt-out : SpeltOut
 unfolding spelt
 spelt-out t n path columns rows j o = records-given t n path columns rows j o

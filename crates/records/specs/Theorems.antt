@@ -40,5 +40,6 @@ recordsOffer rs o = record { count = length rs; space = length o; after = record
 unfoldable pub spelt : Table → ℕ → List ℤ → ℕ → ℕ → ℕ → List Run → Result Run
 spelt t n path columns rows j o = given (callVerdict (lookedVerdict (looked t n)) path columns rows j) (recordsOffer (rowRuns (heldCorners t n) (pathPoints path) columns j) o)
 
-abbrev pub Spelt : Type 0
-Spelt = (t : Table) (n : ℕ) (path : List ℤ) (columns rows j : ℕ) (o : List Run) → recordsCall t n path columns rows j o ≡ spelt t n path columns rows j o
+-- A records call answers and leaves what is spelt out above.
+abbrev pub SpeltOut : Type 0
+SpeltOut = (t : Table) (n : ℕ) (path : List ℤ) (columns rows j : ℕ) (o : List Run) → recordsCall t n path columns rows j o ≡ spelt t n path columns rows j o

@@ -44,10 +44,8 @@ fn flat_runs(
     list: &mut [u16],
 ) -> Answer
     requires { ⌜ length (now list) ≡ rasterMax ⌝ }
-    ensures {
-        λ r. ⌜ record { answer = r; list = take (entries room) (now (list .exit)) }
-            ≡ rowCall table number (now (path .entry)) columns rows row (take (entries room) (now (list .entry))) ⌝
-    }
+    ensures { λ r. ⌜ record { answer = r; list = take (entries room) (now (list .exit)) }
+        ≡ rowCall table number (now (path .entry)) columns rows row (take (entries room) (now (list .entry))) ⌝ }
 {
     let n = entries(room);
     row::row_runs(table, number, path, columns, rows, row, &mut list[..n])
@@ -55,7 +53,8 @@ fn flat_runs(
 
 // The first records, of the numbers of a plain list; the records after them stay.
 fn write(plain: &[u16], count: usize, out: &mut [Run])
-    requires { ⌜ (2 * count ≤ length (now plain)) × (count ≤ length (now out)) ⌝ }
+    requires numbers { ⌜ 2 * count ≤ length (now plain) ⌝ }
+    requires records { ⌜ count ≤ length (now out) ⌝ }
     ensures { λ _. ⌜ now (out .exit) ≡ written count (now (plain .entry)) (now (out .entry)) ⌝ }
 {
     let mut i = 0;
@@ -79,9 +78,7 @@ pub fn row_records(
     row: u64,
     out: &mut [Run],
 ) -> Answer
-    ensures {
-        λ r. ⌜ record { answer = r; list = now (out .exit) } ≡ recordsCall table number (now (path .entry)) columns rows row (now (out .entry)) ⌝
-    }
+    ensures { λ r. ⌜ record { answer = r; list = now (out .exit) } ≡ recordsCall table number (now (path .entry)) columns rows row (now (out .entry)) ⌝ }
 {
     let mut list: [u16; limits::RASTER_MAX] = [0; limits::RASTER_MAX];
     let answer = flat_runs(

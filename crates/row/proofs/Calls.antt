@@ -6,12 +6,13 @@ use lib.IntN.{ℤ}
 use lib.ListN.{getD}
 use Rattle.limits.specs.declared.Verdict.{Verdict}
 use Rattle.limits.specs.declared.Verdict.the-variants.{Passed, Refused}
+use Rattle.limits.specs.Refusal.{aperture, refuse}
 use Rattle.plane.specs.Point.{Pt}
 use Rattle.pen.specs.Answer.{penCorners}
 use Rattle.aperture.specs.declared.Table.{Table}
 use Rattle.aperture.specs.declared.Looked.the-variants as looked·
 use Rattle.aperture.specs.Table.{looked}
-use Rattle.aperture.proofs.Held.{past, corners-found}
+use Rattle.aperture.proofs.Held.{place-past-end, corners-found}
 use Rattle.stroke.specs.Sweep.{pathPoints}
 use Rattle.stroke.specs.Runs.{rowRuns}
 use Rattle.checks.specs.declared.Answer.{Answer}
@@ -34,10 +35,10 @@ module _ (cs : List Pt) (path : List ℤ) (columns rows j : ℕ) (l : List ℕ) 
 
 -- ---- the table
 module _ (t : Table) (n : ℕ) (path : List ℤ) (columns rows j : ℕ) (l : List ℕ) where
-  pub call-refused : {a : Answer} → looked t n ≡ looked·.Refused → a ≡ answerOf (Refused 6 0) → record { answer = a; list = l } ≡ rowCall t n path columns rows j l
+  pub call-refused : {a : Answer} → looked t n ≡ looked·.Refused → a ≡ answerOf (refuse aperture 0) → record { answer = a; list = l } ≡ rowCall t n path columns rows j l
   unfolding rowCall
   call-refused e f = rw (rowCall, e, f)
 
-  pub call-at : (i : ℕ) → looked t n ≡ looked·.At i → rowResult (penCorners (getD (t .places) i past .pen)) path columns rows j l ≡ rowCall t n path columns rows j l
+  pub call-at : (i : ℕ) → looked t n ≡ looked·.At i → rowResult (penCorners (getD (t .places) i place-past-end .pen)) path columns rows j l ≡ rowCall t n path columns rows j l
   unfolding rowCall rowResult
   call-at i e = ap (λ (cs : List Pt). rowResult cs path columns rows j l) (corners-found t n i e) ∙ rw (rowCall, e)

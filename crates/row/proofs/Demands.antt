@@ -8,7 +8,7 @@ use Rattle.setting.specs.declared.Setting.{Setting}
 use Rattle.plane.specs.Point.{Pt}
 use Rattle.pen.specs.Polygon.{pen}
 use Rattle.aperture.specs.declared.Table.{Table}
-use Rattle.aperture.proofs.Held.{held, held-corners}
+use Rattle.aperture.proofs.Held.{holds-found, held-corners}
 use Rattle.checks.proofs.Verdicts.{verdict-not-zero}
 use Rattle.checks.proofs.Given.{zero-gave}
 use Rattle.checks.specs.Checks.{verdict}
@@ -23,7 +23,7 @@ use Rattle.row.specs.Theorems.{Answered}
 -- ---- the aperture's pen
 pub call-is : {t : Table} {n : ℕ} {σ : Setting} → Holds t n σ → (p : List ℤ) (columns rows j : ℕ) (l : List ℕ) → rowCall t n p columns rows j l ≡ rowResult (pen σ) p columns rows j l
 unfolding rowCall rowResult
-call-is {t} {n} {σ} h p columns rows j l = rw (held h, rowCall) (ap (λ (cs : List Pt). rowResult cs p columns rows j l) (held-corners h))
+call-is {t} {n} {σ} h p columns rows j l = rw (holds-found h, rowCall) (ap (λ (cs : List Pt). rowResult cs p columns rows j l) (held-corners h))
 
 -- ---- an answer 0 comes from a success
 -- what an answer 0 says of the runs

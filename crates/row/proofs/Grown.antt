@@ -36,7 +36,9 @@ join-longer : {i : ℕ} (b : Bool) (j : ℕ) {rs ss : List Run} → Longer i rs 
 join-longer false j e = e
 join-longer {i} true j (last {r = r}) = go (leb (r .left) (suc j))
   where
-    go : (t : Bool) → Longer i (cond t (record { left = j; right = r .right } ∷ []) (column j ∷ r ∷ [])) (cond t (record { left = j; right = i } ∷ []) (column j ∷ record { left = r .left; right = i } ∷ []))
+    go : (t : Bool) →
+        Longer i (cond t (record { left = j; right = r .right } ∷ []) (column j ∷ r ∷ []))
+        (cond t (record { left = j; right = i } ∷ []) (column j ∷ record { left = r .left; right = i } ∷ []))
     go true = last
     go false = more last
 join-longer {i} true j (more {r = r} {rs = rs} {ss = ss} e) = go (leb (r .left) (suc j))
@@ -51,7 +53,9 @@ join-new false j x rs h = refl
 join-new true j x [] h = rw (lt-leb x (suc j) h)
 join-new true j x (r ∷ rs) h = go (leb (r .left) (suc j))
   where
-    go : (t : Bool) → cond t (record { left = j; right = r .right } ∷ (rs ++ (column x ∷ []))) (column j ∷ r ∷ (rs ++ (column x ∷ []))) ≡ cond t (record { left = j; right = r .right } ∷ rs) (column j ∷ r ∷ rs) ++ (column x ∷ [])
+    go : (t : Bool) →
+        cond t (record { left = j; right = r .right } ∷ (rs ++ (column x ∷ []))) (column j ∷ r ∷ (rs ++ (column x ∷ [])))
+        ≡ cond t (record { left = j; right = r .right } ∷ rs) (column j ∷ r ∷ rs) ++ (column x ∷ [])
     go true = refl
     go false = refl
 

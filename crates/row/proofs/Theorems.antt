@@ -1,5 +1,5 @@
 -- The claims of specs/Theorems.antt, each under its name there.
-use Prim.Native.Nat.{ℕ, zero, suc, _+_, _/_, _<_}
+use Prim.Native.Nat.{ℕ, zero, suc, _+_, _<_}
 use mathlib.Core.Path.{_≡_, refl, sym, ap₂, _∙_}
 use mathlib.Core.Logic.{_↔_}
 use mathlib.Core.List.{List}
@@ -59,7 +59,8 @@ unfolding pathPoints
 column-answer σ τ g level differs columns rows i inside uncut cs =
     let laws = pen-is-pen σ τ in
     let rs : ℕ → List Run = λ j. rowRuns (pen σ) (pathPoints (entries g)) columns j in
-    number-iff (λ j. (j < rows) × CoversZ (rs j) i) (λ j. (j < rows) × coversIn (cs .answer j .count) (cs .after j) i) (λ j. ((λ h. (h .0, covers j (h .0) .1 (h .1))), λ h. (h .0, covers j (h .0) .0 (h .1))))
+    number-iff (λ j. (j < rows) × CoversZ (rs j) i) (λ j. (j < rows) × coversIn (cs .answer j .count) (cs .after j) i)
+    (λ j. ((λ h. (h .0, covers j (h .0) .1 (h .1))), λ h. (h .0, covers j (h .0) .0 (h .1))))
     (column-covered (pen σ) _ (Dy σ) laws g level differs i inside columns rows rs uncut (λ j h. runs-longest (pen σ) _ _ laws (pathPoints (entries g)) columns j))
   where
     covers : (j : ℕ) → j < rows → coversIn (cs .answer j .count) (cs .after j) i ↔ CoversZ (rowRuns (pen σ) (pathPoints (entries g)) columns j) i

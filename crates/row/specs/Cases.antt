@@ -99,5 +99,6 @@ table =
     []
 
 pub all-hold : all table ≡ true
-unfolding taken Dx Dy norm lower tried bisect nearRoot amount retained corners quarter upAndBack onceEach pen chain edges furthest sides kept inRange narrowed extent runsFrom runsOf coordinateFrom pathPoints rowResult samePoints sameNumbers rowsFrom all
+unfolding taken Dx Dy norm lower tried bisect nearRoot amount retained corners quarter upAndBack onceEach pen chain edges furthest sides kept inRange narrowed extent
+    runsFrom runsOf coordinateFrom pathPoints rowResult samePoints sameNumbers rowsFrom all
 all-hold = refl

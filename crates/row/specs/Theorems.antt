@@ -1,6 +1,6 @@
 -- Demands 2 and 3 over the answers of row calls. They speak of any answers that satisfy the calls' own promise, so they are facts about the code.
 -- Each claim is a type; proofs/Theorems.antt proves it under the same name.
-use Prim.Native.Nat.{ℕ, zero, suc, _+_, _/_, _-_, _<_}
+use Prim.Native.Nat.{ℕ, zero, suc, _+_, _-_, _<_}
 use mathlib.Core.Path.{_≡_}
 use mathlib.Core.Logic.{_⊎_}
 use mathlib.Core.List.{List, [], _∷_}

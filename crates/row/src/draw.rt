@@ -24,9 +24,7 @@ ghost use Rattle.row.specs.Answer.{runsOffer, rowGiven};
 fn write_single(runs: &mut [u16], left: usize, right: usize) -> Answer
     requires left_inside { ⌜ left < rasterMax ⌝ }
     requires right_inside { ⌜ right < rasterMax ⌝ }
-    ensures {
-        λ r. ⌜ record { answer = r; list = now (runs .exit) } ≡ given Passed (runsOffer (record { left = left; right = right } ∷ []) (now (runs .entry))) ⌝
-    }
+    ensures { λ r. ⌜ record { answer = r; list = now (runs .exit) } ≡ given Passed (runsOffer (record { left = left; right = right } ∷ []) (now (runs .entry))) ⌝ }
 {
     let room = checks::room_check(1, runs.len() / 2);
     let Verdict::Passed = room else {
@@ -41,9 +39,7 @@ fn write_far(runs: &mut [u16], far: &[u16], first: usize, end: usize) -> Answer
     requires in_array { ⌜ end ≤ length (now far) ⌝ }
     requires in_raster { ⌜ end ≤ rasterMax ⌝ }
     requires bounded { ⌜ Bounded (now far) first end ⌝ }
-    ensures {
-        λ r. ⌜ record { answer = r; list = now (runs .exit) } ≡ given Passed (runsOffer (runsOf (blackFar (now (far .entry))) end) (now (runs .entry))) ⌝
-    }
+    ensures { λ r. ⌜ record { answer = r; list = now (runs .exit) } ≡ given Passed (runsOffer (runsOf (blackFar (now (far .entry))) end) (now (runs .entry))) ⌝ }
 {
     let count = count_runs(far, first, end);
     let room = checks::room_check(count, runs.len() / 2);
@@ -64,10 +60,8 @@ fn several_runs<'a>(
     row: u64,
 ) -> Answer
     requires { ⌜ Drawable (now path) columns row ⌝ }
-    ensures {
-        λ r. ⌜ record { answer = r; list = now (runs .exit) }
-            ≡ rowGiven Passed (corners count (now (xs .entry)) (now (ys .entry))) (now (path .entry)) columns row (now (runs .entry)) ⌝
-    }
+    ensures { λ r. ⌜ record { answer = r; list = now (runs .exit) }
+        ≡ rowGiven Passed (corners count (now (xs .entry)) (now (ys .entry))) (now (path .entry)) columns row (now (runs .entry)) ⌝ }
 {
     let mut far: [u16; limits::RASTER_MAX] = [0; limits::RASTER_MAX];
     let b = cuts::put_together(&mut far, xs, ys, count, path, columns, row);
@@ -85,10 +79,8 @@ pub fn draw_runs<'a>(
     row: u64,
 ) -> Answer
     requires { ⌜ Drawable (now path) columns row ⌝ }
-    ensures {
-        λ r. ⌜ record { answer = r; list = now (runs .exit) }
-            ≡ rowGiven Passed (corners count (now (xs .entry)) (now (ys .entry))) (now (path .entry)) columns row (now (runs .entry)) ⌝
-    }
+    ensures { λ r. ⌜ record { answer = r; list = now (runs .exit) }
+        ≡ rowGiven Passed (corners count (now (xs .entry)) (now (ys .entry))) (now (path .entry)) columns row (now (runs .entry)) ⌝ }
 {
     match cuts::touching(xs, ys, count, path, columns, row) {
         Touch::Untouched => checks::done(0),

@@ -26,9 +26,7 @@ pub fn row_runs(
     row: u64,
     runs: &mut [u16],
 ) -> Answer
-    ensures {
-        λ r. ⌜ record { answer = r; list = now (runs .exit) } ≡ rowCall table number (now (path .entry)) columns rows row (now (runs .entry)) ⌝
-    }
+    ensures { λ r. ⌜ record { answer = r; list = now (runs .exit) } ≡ rowCall table number (now (path .entry)) columns rows row (now (runs .entry)) ⌝ }
 {
     let Looked::At(i) = aperture::look_up(table, number) else {
         return checks::report(Verdict::Refused(limits::NO_APERTURE, 0));
@@ -46,9 +44,7 @@ pub fn runs_for(
     row: u64,
     runs: &mut [u16],
 ) -> Answer
-    ensures {
-        λ r. ⌜ record { answer = r; list = now (runs .exit) } ≡ rowResult (penCorners pen) (now (path .entry)) columns rows row (now (runs .entry)) ⌝
-    }
+    ensures { λ r. ⌜ record { answer = r; list = now (runs .exit) } ≡ rowResult (penCorners pen) (now (path .entry)) columns rows row (now (runs .entry)) ⌝ }
 {
     let checked = checks::check(path, columns, rows, row);
     let Verdict::Passed = checked else {

@@ -105,10 +105,8 @@ fn write_column(runs: &mut [u16], n: usize, i: usize, before: bool, black: bool)
     requires inside { ⌜ i < rasterMax ⌝ }
     requires some { ⌜ (before ≡ true → 1 ≤ n) ⌝ }
     requires room { ⌜ 2 * cond (black && not before) (suc n) n ≤ length (now runs) ⌝ }
-    ensures {
-        λ _. ⌜ now (runs .exit)
-            ≡ cond black (cond before (set (now (runs .entry)) (2 * n - 1) i) (set (set (now (runs .entry)) (2 * n) i) (2 * n + 1) i)) (now (runs .entry)) ⌝
-    }
+    ensures { λ _. ⌜ now (runs .exit)
+        ≡ cond black (cond before (set (now (runs .entry)) (2 * n - 1) i) (set (set (now (runs .entry)) (2 * n) i) (2 * n + 1) i)) (now (runs .entry)) ⌝ }
 {
     if black {
         if before {

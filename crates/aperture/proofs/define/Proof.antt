@@ -16,14 +16,20 @@ use Rattle.aperture.proofs.define.Statement.{statement}
 use Rattle.aperture.proofs.define.Tie as tie
 
 abbrev setting : tie.Start → Setting
-setting c = record { w = c .args .w; p = c .args .p; q = c .args .q }
+setting s = record { w = s .args .w; p = s .args .p; q = s .args .q }
 
--- the first check is passed
-numbered : (c : tie.Else1) → isNumber (c .before .before .args .number) ≡ true
+-- where the first check is passed: the call as it was
+abbrev start : tie.Else1 → tie.Start
+start c = c .before .before
+
+numbered : (c : tie.Else1) → isNumber (start c .args .number) ≡ true
 numbered c = sym (c .before .is-number .ensures) ∙ not-false _ (c .if1 .left)
 
--- the second check is passed, and what it hands on is the setting that it was asked of
-passed : (c : tie.After-known-told) → (taken (setting (c .before .before .before .before .before .before)) ≡ true) × (setting (c .before .before .before .before .before .before) ≡ c .before .s .given .0 .0)
+-- where the second check is passed: where the first was, and what this one hands on is the setting that it was asked of
+abbrev first : tie.After-known-told → tie.Else1
+first c = c .before .before .before .before
+
+passed : (c : tie.After-known-told) → let σ = setting (start (first c)) in (taken σ ≡ true) × (σ ≡ c .before .s .given .0 .0)
 passed c = checked-taken _ _ (sym (c .before .before .before .check .ensures) ∙ c .before .s .given .1)
 
 is-number-requires : tie.Need-is-number-requires
@@ -43,27 +49,31 @@ enum-told c = search needs
 
 returns-2 : tie.Need-returns-2
 returns-2 c =
-    let σ = setting (c .before .before .before .before .before) in
-    sym (not-taken _ _ σ (numbered (c .before .before .before)) (checked-refused σ (sym (c .before .before .check .ensures) ∙ c .enum-told .given .1)))
+    let asked = c .before .before in
+    let σ = setting (start (asked .before)) in
+    sym (not-taken _ _ σ (numbered (asked .before)) (checked-refused σ (sym (asked .check .ensures) ∙ c .enum-told .given .1)))
 
 is-used-requires : tie.Need-is-used-requires
-is-used-requires c κs = numbered (c .before .before .before .before)
+is-used-requires c κs = numbered (first c)
 
 returns-3 : tie.Need-returns-3
-returns-3 c = sym (not-free _ _ _ (numbered (c .before .before .before .before .before .before)) (passed (c .before .before) .0) (sym (c .before .is-used .ensures) ∙ c .if2 .taken))
+returns-3 c = let second = c .before .before in sym (not-free _ _ _ (numbered (first second)) (passed second .0) (sym (c .before .is-used .ensures) ∙ c .if2 .taken))
 
 holding-requires : tie.Need-holding-requires
 holding-requires c κs = let k = passed (c .before .before) in subst Taken (k .1) (taken-iff _ .0 (k .0))
 
 with-place-requires : tie.Need-with-place-requires
-with-place-requires c κs = numbered (c .before .before .before .before .before .before .before)
+with-place-requires c κs = numbered (first (c .before .before .before))
 
 returns-4 : tie.Need-returns-4
 returns-4 c =
-    let a = c .before .before .before .before .before .before .before .before .before .before .args in
-    let k = passed (c .before .before .before .before) in
-    let stored = c .with-place .ensures ∙ ap (λ (p : Place). withPlace (a .t) (a .number) p) (c .before .holding .ensures ∙ ap (λ (s : Setting). holding s) (sym (k .1))) in
-    ap (λ (u : Table). changed Passed u (a .t)) stored ∙ sym (stores _ _ _ (numbered (c .before .before .before .before .before .before .before .before)) (k .0) (sym (c .before .before .before .is-used .ensures) ∙ c .before .before .if2 .left))
+    let free = c .before .before in
+    let second = free .before .before in
+    let a = start (first second) .args in
+    let k = passed second in
+    let place = c .before .holding .ensures ∙ ap (λ (s : Setting). holding s) (sym (k .1)) in
+    let stored = c .with-place .ensures ∙ ap (λ (p : Place). withPlace (a .t) (a .number) p) place in
+    ap (λ (u : Table). changed Passed u (a .t)) stored ∙ sym (stores _ _ _ (numbered (first second)) (k .0) (sym (free .before .is-used .ensures) ∙ free .if2 .left))
 
 pub define-spec : {M : Type 1} → statement M
 define-spec =

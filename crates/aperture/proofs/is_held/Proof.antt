@@ -1,5 +1,5 @@
 -- Both parts of the test, the place only of a number that has one.
-use mathlib.Core.Path.{_≡_, sym, _∙_}
+use mathlib.Core.Path.{sym, _∙_}
 use borrow.Author.Tests.{not-true, not-false}
 use Rattle.aperture.proofs.Numbers.{held-not, held-used}
 use borrow.Author.Needs.{needs}

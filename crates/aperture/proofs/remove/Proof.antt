@@ -29,9 +29,10 @@ with-place-requires c κs = let a = c .before .before .before .args in held-part
 
 returns-2 : tie.Need-returns-2
 returns-2 c =
-    let a = c .before .before .before .before .args in
+    let used = c .before .before in
+    let a = used .before .before .args in
     let stored = c .with-place .ensures ∙ ap (λ (p : Place). withPlace (a .t) (a .number) p) (c .before .vacant .ensures) in
-    ap (λ (u : Table). changed Passed u (a .t)) stored ∙ sym (empties _ _ (held (c .before .before)))
+    ap (λ (u : Table). changed Passed u (a .t)) stored ∙ sym (empties _ _ (held used))
 
 pub remove-spec : {M : Type 1} → statement M
 remove-spec =

@@ -1,8 +1,8 @@
 -- The setting is refused, or the row is that of its pen.
-use Prim.Native.Nat.{ℕ}
 use mathlib.Core.Path.{_≡_, sym, _∙_}
 use native.Mathlib.Omega.{arith}
 use borrow.Author.Needs.{needs}
+use Rattle.limits.specs.Refusal as refusal
 use Rattle.setting.specs.declared.Setting.{Setting}
 use Rattle.setting.specs.declared.Checked.the-variants.{Taken}
 use Rattle.setting.specs.Answer.{checked}
@@ -35,7 +35,7 @@ enum-told : tie.Need-enum-told
 enum-told c = search needs
 
 refused-requires : tie.Need-refused-requires
-refused-requires c κs = refused-fit 1 (omega arith)
+refused-requires c κs = refused-fit (refusal.number refusal.setting) (omega arith)
 
 returns : tie.Need-returns
 returns c =
@@ -60,8 +60,9 @@ returns-2 c =
     let p = built .before .before in
     let s = start (p .before .before) in
     let a = s .args in
+    let is-its-pen = built-taken (setting s) (taken p) (built .build .result) (is-taken p) (built .build .ensures) in
     drawn .of-bytes .ensures
-    ∙ packed-goes-on (setting s) (a .path .now) (a .columns) (a .rows) (a .row) (a .bytes .now) (taken p) (built .build .result .pen) (is-taken p) (built-taken (setting s) (taken p) (built .build .result) (is-taken p) (built .build .ensures))
+    ∙ packed-goes-on (setting s) (a .path .now) (a .columns) (a .rows) (a .row) (a .bytes .now) (taken p) (built .build .result .pen) (is-taken p) is-its-pen
 
 pub zimarolfo-packed-row-spec : {M : Type 1} → statement M
 zimarolfo-packed-row-spec =

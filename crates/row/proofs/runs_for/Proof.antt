@@ -1,6 +1,5 @@
 -- The checks refuse, or the row is drawn as their answer allows.
-use Prim.Native.Nat.{ℕ}
-use mathlib.Core.Path.{_≡_, sym, _∙_}
+use mathlib.Core.Path.{sym, _∙_}
 use borrow.Author.Needs.{needs}
 use Rattle.limits.specs.Sizes.{Drawable}
 use Rattle.pen.specs.Answer.{penCorners}

@@ -90,7 +90,7 @@ put-rows-requires c κs =
     let at = h .put-header .result in
     let sheet = begin r .args .sheet in
     let rest : length (take (length (buffer h) - at) (drop at (buffer h))) ≡ sheet .rows * packedLength (sheet .columns) =
-        simp (length-take, length-drop) (omega (arith, behind h)) in
+    simp (length-take, length-drop) (omega (arith, behind h)) in
     (part-zeros r, rest ∙ sym (ap (λ (n : ℕ). sheet .rows * n) (part-packed r)))
 
 same-length : tie.Need-same-length

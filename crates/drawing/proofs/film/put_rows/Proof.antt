@@ -98,16 +98,18 @@ loop-again c =
     let n = between t in
     let r = drawn .draw-row in
     let new = r .last .1 .1 .1 .1 .1 .1 .0 in
-    let long = r .kept .1 .1 .1 .1 .1 .1 .0 in
-    (l .inv .0, record {
-      few = omega (arith, l .inv .1 .few);
-      place = omega (arith, turn (l .row) w (omega arith), l .inv .1 .place);
-      long = same-len-mid (l .at) (l .at + w - l .at) (l .out) new long ∙ l .inv .1 .long;
-      clear = r .ensures .0 ∙ ap zeros n;
-      front =
-          put-row (rowsOf s w) (l .out) new _ (l .at) w (l .row) (omega arith) (omega (arith, room t)) (long ∙ n) (r .ensures .1 ∙ ap (λ (m : ℕ). rowsOf s m (l .row - 1)) n)
-          ∙ l .inv .1 .front;
-    })
+    let long = r .kept .1 .1 .1 .1 .1 .1 .0 in (
+      l .inv .0,
+      record {
+        few = omega (arith, l .inv .1 .few);
+        place = omega (arith, turn (l .row) w (omega arith), l .inv .1 .place);
+        long = same-len-mid (l .at) (l .at + w - l .at) (l .out) new long ∙ l .inv .1 .long;
+        clear = r .ensures .0 ∙ ap zeros n;
+        front =
+            put-row (rowsOf s w) (l .out) new _ (l .at) w (l .row) (omega arith) (omega (arith, room t)) (long ∙ n) (r .ensures .1 ∙ ap (λ (m : ℕ). rowsOf s m (l .row - 1)) n)
+            ∙ l .inv .1 .front;
+      },
+    )
 
 same-length : tie.Need-same-length Inv-loop μ-loop
 same-length c = let k = c .before in ap length (k .loop .inv .1 .clear) ∙ sym (ap length (start k .pre .0))

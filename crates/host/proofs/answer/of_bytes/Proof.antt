@@ -7,14 +7,13 @@ use lib.Dec.{eqb, leb}
 use lib.ListN.{length}
 use borrow.Author.Needs.{needs}
 use Rattle.limits.specs.Sizes.{entriesMax}
-use Rattle.limits.specs.Refusal.{path}
+use Rattle.limits.specs.Refusal.{number, path, refuse}
 use Rattle.limits.specs.declared.Verdict.{Verdict}
-use Rattle.limits.specs.declared.Verdict.the-variants.{Refused}
 use Rattle.limits.proofs.Verdicts.{unless-true, unless-refused}
 use Rattle.wire.specs.Read.{entriesOf}
 use Rattle.checks.specs.Answer.{answerOf}
 use Rattle.host.specs.Host.{coded}
-use Rattle.host.specs.Call.{Fit, callWith, bytesVerdict}
+use Rattle.host.specs.Call.{Fit, callWith}
 use Rattle.host.proofs.Verdicts.{Read, bytes-refused, bytes-read}
 use Rattle.host.proofs.Outcomes.{refused-fit, call-refused}
 use Rattle.host.proofs.answer.of_bytes.Statement.{statement}
@@ -26,7 +25,7 @@ start c = c .before .before .before
 
 -- where it is refused: the refusal is 2
 refusal : (c : tie.After-enum-told2) → let k = c .before .before in
-    (k .bytes-check .result ≡ Refused 2 0) × ((eqb (length (start k .args .path .now) % 4) 0 && leb (length (start k .args .path .now)) (4 * entriesMax)) ≡ false)
+    (k .bytes-check .result ≡ refuse path 0) × ((eqb (length (start k .args .path .now) % 4) 0 && leb (length (start k .args .path .now)) (4 * entriesMax)) ≡ false)
 refusal c = unless-refused _ path (c .before .before .bytes-check .ensures) (c .enum-told2 .given .1)
 
 -- where it is passed: the bytes are a path
@@ -46,7 +45,7 @@ enum-told-2 : tie.Need-enum-told-2
 enum-told-2 c = search needs
 
 refused-requires : tie.Need-refused-requires
-refused-requires c κs = subst (λ (v : Verdict). Fit (answerOf v)) (sym (refusal c .0)) (refused-fit 2 (omega arith))
+refused-requires c κs = subst (λ (v : Verdict). Fit (answerOf v)) (sym (refusal c .0)) (refused-fit (number path) (omega arith))
 
 returns : tie.Need-returns
 returns c =

@@ -4,6 +4,7 @@ use mathlib.Core.Path.{sym, subst}
 use native.Mathlib.Omega.{arith}
 use lib.ListN.{length}
 use borrow.Author.Needs.{needs}
+use Rattle.limits.specs.Refusal.{number, room}
 use Rattle.limits.specs.declared.Verdict.{Verdict}
 use Rattle.checks.specs.Answer.{answerOf}
 use Rattle.checks.proofs.Verdicts.{room-refused}
@@ -30,7 +31,7 @@ refused-requires c κs =
     let k = c .before .before in
     let a = start k .args in
     let r = room-refused (a .a .count) (length (a .runs .now) / 4) (k .room-check .ensures) (c .enum-told2 .given .1) in
-    subst (λ (v : Verdict). Fit (answerOf v)) (sym (r .1)) (refused-fit 7 (omega arith))
+    subst (λ (v : Verdict). Fit (answerOf v)) (sym (r .1)) (refused-fit (number room) (omega arith))
 
 returns : tie.Need-returns
 returns c =

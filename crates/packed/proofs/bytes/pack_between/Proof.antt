@@ -4,6 +4,8 @@ use mathlib.Core.Path.{_≡_, ap, _∙_}
 use mathlib.Core.Bool.{Bool, _&&_}
 use native.Mathlib.Omega.{arith}
 use lib.Dec.{ltb}
+use lib.ListN.{length}
+use Rattle.limits.specs.Sizes.{rasterMax}
 use Rattle.packed.specs.Packed.{bitsFrom, packedLength}
 use Rattle.packed.proofs.PackedRow.{filled, fill-length, fill-more, fill-from, fill-rest}
 use Rattle.packed.proofs.PackedSpan.{span, span-in-raster, span-before, span-past}
@@ -16,42 +18,65 @@ Inv-loop bytes₀ columns left end n k₀ bytes k = (n ≡ packedLength end) × 
 abbrev μ-loop : tie.MeasureT-loop
 μ-loop bytes₀ columns left end n k₀ bytes k = n - k
 
+-- where the row is cleared: what the call was given, and what its contract says of that
+abbrev start : tie.After-pack-none Inv-loop μ-loop → tie.Start Inv-loop μ-loop
+start c = c .before .before .before
+
+room : (s : tie.Start Inv-loop μ-loop) → packedLength (s .args .columns) ≤ length (s .args .bytes .now)
+room s = s .pre .0
+
+in-raster : (s : tie.Start Inv-loop μ-loop) → s .args .columns ≤ rasterMax
+in-raster s = s .pre .1 .0
+
+ordered : (s : tie.Start Inv-loop μ-loop) → s .args .left ≤ s .args .end
+ordered s = s .pre .1 .1 .0
+
+inside : (s : tie.Start Inv-loop μ-loop) → s .args .end ≤ s .args .columns
+inside s = s .pre .1 .1 .1
+
+-- at the loop: the row was cleared before it
+abbrev cleared : tie.At-loop Inv-loop μ-loop → tie.After-pack-none Inv-loop μ-loop
+cleared c = c .before .before .before .before
+
+-- in the loop byte k is one of the row's
+of-row : (c : tie.In-loop Inv-loop μ-loop) → 8 * c .before .loop .k < start (cleared (c .before)) .args .columns
+of-row c = omega (arith, c .before .loop .inv .0, c .loop-test .taken, inside (start (cleared (c .before))))
+
 pack-none-requires : tie.Need-pack-none-requires Inv-loop μ-loop
-pack-none-requires c κs = let p = c .before .before .pre in (p .0, p .1 .0)
+pack-none-requires c κs = let s = c .before .before in (room s, in-raster s)
 
 length-of-requires : tie.Need-length-of-requires Inv-loop μ-loop
-length-of-requires c κs = let p = c .before .before .before .before .before .pre in omega (arith, p .1 .0, p .1 .1 .1)
+length-of-requires c κs = let s = start (c .before .before) in omega (arith, in-raster s, inside s)
 
 loop-holds : tie.Need-loop-holds Inv-loop μ-loop
 loop-holds c =
-    let a = c .before .before .before .before .before .before .args in
-    let p = c .before .before .before .before .before .before .pre in (
+    let clear = c .before .before .before in
+    let s = start clear in
+    let a = s .args in
+    let l : a .left / 8 ≤ packedLength (a .columns) = omega (arith, ordered s, inside s) in (
       c .length-of .ensures,
-      omega (arith, c .length-of .ensures, p .1 .1 .0),
-      fill-from (span (a .left) (a .end)) (a .columns) (a .bytes .now) (p .0) (c .before .before .before .pack-none .ensures) (a .left / 8) (omega (arith, p .1 .1 .0, p .1 .1 .1))
+      omega (arith, c .length-of .ensures, ordered s),
+      fill-from (span (a .left) (a .end)) (a .columns) (a .bytes .now) (room s) (clear .pack-none .ensures) (a .left / 8) l
           (λ x h. span-before (a .left) (a .end) x (omega arith)),
     )
 
 mul-span-byte : tie.Need-mul-span-byte Inv-loop μ-loop
-mul-span-byte c = let p = c .before .before .before .before .before .before .before .before .pre in omega (arith, c .before .loop .inv .0, p .1 .0, p .1 .1 .1, c .loop-test .taken)
+mul-span-byte c = omega (arith, of-row c, in-raster (start (cleared (c .before))))
 
 span-byte-requires : tie.Need-span-byte-requires Inv-loop μ-loop
-span-byte-requires c κs = c .before .before .before .before .before .before .before .before .pre .1 .1 .0
-
--- byte k is one of the row's
-room : (c : tie.In-loop Inv-loop μ-loop) → c .before .loop .k < packedLength (c .before .before .before .before .before .before .before .before .args .columns)
-room c = omega (arith, c .before .loop .inv .0, c .loop-test .taken, c .before .before .before .before .before .before .before .before .pre .1 .1 .1)
+span-byte-requires c κs = ordered (start (cleared (c .before)))
 
 slice-write-bytes : tie.Need-slice-write-bytes Inv-loop μ-loop
 slice-write-bytes c =
     let i = c .before .before .loop in
-    let l = room (c .before) in
-    let p = c .before .before .before .before .before .before .before .before .before .pre .0 in
-    let s = c .before .before .before .before .before .before .pack-none .kept .0 in
-    omega (arith, fill-length _ (i .k) _ (omega (arith, l, p, s)) (i .inv .2), l, p, s)
+    let clear = cleared (c .before .before) in
+    let l = of-row (c .before) in
+    let r = room (start clear) in
+    let kept = clear .pack-none .kept .0 in
+    omega (arith, fill-length _ (i .k) _ (omega (arith, l, r, kept)) (i .inv .2), l, r, kept)
 
 add-k : tie.Need-add-k Inv-loop μ-loop
-add-k c = omega (arith, room (c .before), c .before .before .before .before .before .before .before .before .before .pre .1 .0)
+add-k c = omega (arith, of-row (c .before), in-raster (start (cleared (c .before .before))))
 
 loop-less : tie.Need-loop-less Inv-loop μ-loop
 loop-less c = omega (arith, c .before .loop-test .taken)
@@ -59,28 +84,32 @@ loop-less c = omega (arith, c .before .loop-test .taken)
 loop-again : tie.Need-loop-again Inv-loop μ-loop
 loop-again c =
     let i = c .before .before .loop in
-    let a = c .before .before .before .before .before .before .before .before .before .args in
-    let p = c .before .before .before .before .before .before .before .before .before .pre in
-    let t = c .before .loop-test .taken in (
+    let clear = cleared (c .before .before) in
+    let s = start clear in
+    let a = s .args in
+    let kept = clear .pack-none .kept .0 in (
       i .inv .0,
-      omega (arith, t),
-      fill-more (λ x. ltb x (a .columns) && span (a .left) (a .end) x) (i .k) _ (omega (arith, room (c .before), p .0, c .before .before .before .before .before .before .pack-none .kept .0)) (i .inv .2)
-          (c .span-byte .ensures ∙ ap (λ (f : ℕ → Bool). bitsFrom f (8 * i .k) 8 0) (span-in-raster (a .left) (a .end) (a .columns) (p .1 .1 .1))),
+      omega (arith, c .before .loop-test .taken),
+      fill-more (λ x. ltb x (a .columns) && span (a .left) (a .end) x) (i .k) _ (omega (arith, of-row (c .before), room s, kept)) (i .inv .2)
+          (c .span-byte .ensures ∙ ap (λ (f : ℕ → Bool). bitsFrom f (8 * i .k) 8 0) (span-in-raster (a .left) (a .end) (a .columns) (inside s))),
     )
 
 same-length : tie.Need-same-length Inv-loop μ-loop
 same-length c =
     let i = c .before .loop in
-    let p = c .before .before .before .before .before .before .before .before .pre in
-    let s = c .before .before .before .before .before .pack-none .kept .0 in
-    fill-length _ (i .k) _ (omega (arith, i .inv .0, i .inv .1, p .0, p .1 .1 .1, s)) (i .inv .2) ∙ s
+    let clear = cleared (c .before) in
+    let s = start clear in
+    let kept = clear .pack-none .kept .0 in
+    fill-length _ (i .k) _ (omega (arith, i .inv .0, i .inv .1, room s, inside s, kept)) (i .inv .2) ∙ kept
 
 returns : tie.Need-returns Inv-loop μ-loop
 returns c =
     let i = c .before .loop in
-    let a = c .before .before .before .before .before .before .before .before .args in
-    let p = c .before .before .before .before .before .before .before .before .pre in
-    fill-rest (span (a .left) (a .end)) (a .columns) (a .bytes .now) (p .0) (c .before .before .before .before .before .pack-none .ensures) (i .k) (omega (arith, i .inv .0, i .inv .1, p .1 .1 .1))
+    let clear = cleared (c .before) in
+    let s = start clear in
+    let a = s .args in
+    let l : i .k ≤ packedLength (a .columns) = omega (arith, i .inv .0, i .inv .1, inside s) in
+    fill-rest (span (a .left) (a .end)) (a .columns) (a .bytes .now) (room s) (clear .pack-none .ensures) (i .k) l
     (λ x h. span-past (a .left) (a .end) x (omega (arith, i .inv .0, c .loop-test .left))) (i .inv .2)
 
 pub pack-between-spec : {M : Type 1} → statement M

@@ -6,8 +6,9 @@ use lib.Dec.{ltb}
 use borrow.Author.Tests.{lt-ltb, le-ltb}
 use native.Mathlib.Omega.{arith}
 use mathlib.Core.Bool.{Bool, cond}
+use mathlib.Core.List.{_∷_}
 use mathlib.Core.Path.{_≡_, sym, ap}
-use Prim.Native.Nat.{ℕ}
+use Prim.Native.Nat.{ℕ, _+_, min}
 use borrow.Author.Needs.{needs}
 use Rattle.packed.proofs.bytes.pack_column.Statement.{statement}
 use Rattle.packed.proofs.bytes.pack_column.Tie as tie
@@ -16,15 +17,27 @@ use Rattle.packed.proofs.bytes.pack_column.Tie as tie
 bit : {t u : Bool} → t ≡ u → _≡_ {A = ℕ} (cond t 1 0) (cond u 1 0)
 bit e = ap (λ (v : Bool). cond v 1 0) e
 
+-- in the raster, where the reach is made: what the call was given, and the new reach
+abbrev start : tie.After-max-u16 → tie.Start
+start c = c .before .before .before .before
+
+abbrev in-raster : tie.After-max-u16 → tie.Else1
+in-raster c = c .before .before
+
+new-reach : (c : tie.After-max-u16) → let a = start c .args in
+    (c .max-u16 .result ≡ reachTo (a .far .now) (a .x)) × (c .max-u16 .result ≡ reachTo (0 ∷ a .far .now) (min (a .x + 1) (a .columns)))
+new-reach c = let a = start c .args in reach-on (a .far .now) (a .columns) (a .x) (in-raster c .if1 .left) (start c .pre .1 .1) (c .max-u16 .ensures)
+
 mul-t7 : tie.Need-mul-t7
 mul-t7 c = search needs
 
 returns : tie.Need-returns
 returns c =
-    let a = c .before .before .before .args in
+    let s = c .before .before .before in
+    let a = s .args in
     let l = c .before .if1 .taken in
     let spare = sym (false-and (ltb (a .x) (a .columns)) (blackFar (a .far .now) (a .x)) (le-ltb (a .x) (a .columns) l)) in
-    (omega (arith, bit spare), reach-stays (a .far .now) (a .columns) (a .x) l (c .before .before .before .pre .1 .1))
+    (omega (arith, bit spare), reach-stays (a .far .now) (a .columns) (a .x) l (s .pre .1 .1))
 
 mul-max-u16 : tie.Need-mul-max-u16
 mul-max-u16 c = search needs
@@ -46,22 +59,21 @@ add-t12 c = search needs
 
 returns-2 : tie.Need-returns-2
 returns-2 c =
-    let a = c .before .before .before .before .before .before .args in
-    let l = c .before .before .before .before .if1 .left in
-    let r = reach-on (a .far .now) (a .columns) (a .x) l (c .before .before .before .before .before .before .pre .1 .1) (c .before .before .max-u16 .ensures) in
-    let b = lt-ltb (a .x) (reachTo (a .far .now) (a .x)) (omega (arith, r .0, c .before .if2 .taken)) in
-    (omega (arith, bit (and-true (ltb (a .x) (a .columns)) (blackFar (a .far .now) (a .x)) (lt-ltb (a .x) (a .columns) l) b)), r .1)
+    let reached = c .before .before in
+    let a = start reached .args in
+    let l = lt-ltb (a .x) (a .columns) (in-raster reached .if1 .left) in
+    let b = lt-ltb (a .x) (reachTo (a .far .now) (a .x)) (omega (arith, new-reach reached .0, c .before .if2 .taken)) in
+    (omega (arith, bit (and-true (ltb (a .x) (a .columns)) (blackFar (a .far .now) (a .x)) l b)), new-reach reached .1)
 
 mul-t13 : tie.Need-mul-t13
 mul-t13 c = search needs
 
 returns-3 : tie.Need-returns-3
 returns-3 c =
-    let a = c .before .before .before .before .before .before .args in
-    let l = c .before .before .before .before .if1 .left in
-    let r = reach-on (a .far .now) (a .columns) (a .x) l (c .before .before .before .before .before .before .pre .1 .1) (c .before .before .max-u16 .ensures) in
-    let b = le-ltb (a .x) (reachTo (a .far .now) (a .x)) (omega (arith, r .0, c .before .if2 .left)) in
-    (omega (arith, bit (and-false (ltb (a .x) (a .columns)) (blackFar (a .far .now) (a .x)) b)), r .1)
+    let reached = c .before .before in
+    let a = start reached .args in
+    let b = le-ltb (a .x) (reachTo (a .far .now) (a .x)) (omega (arith, new-reach reached .0, c .before .if2 .left)) in
+    (omega (arith, bit (and-false (ltb (a .x) (a .columns)) (blackFar (a .far .now) (a .x)) b)), new-reach reached .1)
 
 pub pack-column-spec : {M : Type 1} → statement M
 pack-column-spec =

@@ -4,6 +4,7 @@ use mathlib.Core.Path.{_≡_, ap, _∙_}
 use mathlib.Core.Bool.{false, _&&_}
 use native.Mathlib.Omega.{arith}
 use lib.Dec.{ltb}
+use lib.ListN.{length}
 use Rattle.packed.specs.Packed.{packedLength}
 use Rattle.packed.proofs.PackedRow.{filled, fill-none, fill-length, fill-more, byte-clear}
 use Rattle.packed.proofs.bytes.pack_none.Statement.{statement}
@@ -15,6 +16,13 @@ Inv-loop bytes₀ columns n k₀ bytes k = (n ≡ packedLength columns) × (k �
 abbrev μ-loop : tie.MeasureT-loop
 μ-loop bytes₀ columns n k₀ bytes k = n - k
 
+-- at the loop: the call as it was, and what its contract says of that
+abbrev start : tie.At-loop Inv-loop μ-loop → tie.Start Inv-loop μ-loop
+start c = c .before .before .before
+
+room : (s : tie.Start Inv-loop μ-loop) → packedLength (s .args .columns) ≤ length (s .args .bytes .now)
+room s = s .pre .0
+
 length-of-requires : tie.Need-length-of-requires Inv-loop μ-loop
 length-of-requires c κs = c .before .pre .1
 
@@ -25,11 +33,11 @@ slice-write-bytes : tie.Need-slice-write-bytes Inv-loop μ-loop
 slice-write-bytes c =
     let i = c .before .loop in
     let t = c .loop-test .taken in
-    let p = c .before .before .before .before .pre .0 in
-    omega (arith, fill-length _ (i .k) (c .before .before .before .before .args .bytes .now) (omega (arith, i .inv .0, t, p)) (i .inv .2), i .inv .0, t, p)
+    let s = start (c .before) in
+    omega (arith, fill-length _ (i .k) (s .args .bytes .now) (omega (arith, i .inv .0, t, room s)) (i .inv .2), i .inv .0, t, room s)
 
 add-k : tie.Need-add-k Inv-loop μ-loop
-add-k c = omega (arith, c .before .loop .inv .0, c .before .before .before .before .pre .1, c .loop-test .taken)
+add-k c = omega (arith, c .before .loop .inv .0, start (c .before) .pre .1, c .loop-test .taken)
 
 loop-less : tie.Need-loop-less Inv-loop μ-loop
 loop-less c = omega (arith, c .loop-test .taken)
@@ -37,22 +45,24 @@ loop-less c = omega (arith, c .loop-test .taken)
 loop-again : tie.Need-loop-again Inv-loop μ-loop
 loop-again c =
     let i = c .before .loop in
-    let a = c .before .before .before .before .args in
+    let s = start (c .before) in
+    let a = s .args in
     let t = c .loop-test .taken in (
       i .inv .0,
       omega (arith, t),
-      fill-more (λ x. ltb x (a .columns) && false) (i .k) (a .bytes .now) (omega (arith, t, i .inv .0, c .before .before .before .before .pre .0)) (i .inv .2) (byte-clear (a .columns) (8 * i .k)),
+      fill-more (λ x. ltb x (a .columns) && false) (i .k) (a .bytes .now) (omega (arith, t, i .inv .0, room s)) (i .inv .2) (byte-clear (a .columns) (8 * i .k)),
     )
 
 same-length : tie.Need-same-length Inv-loop μ-loop
 same-length c =
     let i = c .before .loop in
-    fill-length _ (i .k) (c .before .before .before .before .args .bytes .now) (omega (arith, i .inv .0, i .inv .1, c .before .before .before .before .pre .0)) (i .inv .2)
+    let s = start (c .before) in
+    fill-length _ (i .k) (s .args .bytes .now) (omega (arith, i .inv .0, i .inv .1, room s)) (i .inv .2)
 
 returns : tie.Need-returns Inv-loop μ-loop
 returns c =
     let i = c .before .loop in
-    let a = c .before .before .before .before .args in
+    let a = start (c .before) .args in
     let e : i .k ≡ packedLength (a .columns) = omega (arith, i .inv .0, i .inv .1, c .loop-test .left) in
     i .inv .2 ∙ ap (λ (n : ℕ). filled (λ x. ltb x (a .columns) && false) n (a .bytes .now)) e
 

@@ -20,8 +20,9 @@ same-length c = search needs
 
 returns : tie.Need-returns
 returns c =
-    let a = c .before .before .before .before .before .args in
-    c .before .before .pack-between .ensures ∙ ap (λ (l : List ℕ). l ++ drop (packedLength (a .columns)) (a .bytes .now)) (packed-span (a .left) (a .right) (a .columns))
+    let packed = c .before .before in
+    let a = packed .before .before .before .args in
+    packed .pack-between .ensures ∙ ap (λ (l : List ℕ). l ++ drop (packedLength (a .columns)) (a .bytes .now)) (packed-span (a .left) (a .right) (a .columns))
 
 pub pack-span-spec : {M : Type 1} → statement M
 pack-span-spec = tie.close (tie.spec add-pack-between pack-between-requires same-length returns)

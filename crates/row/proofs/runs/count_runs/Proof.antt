@@ -16,6 +16,10 @@ Inv-loop far first end p₀ i₀ p i = (i ≤ end) × Passed far i p
 abbrev μ-loop : tie.MeasureT-loop
 μ-loop far first end p₀ i₀ p i = end - i
 
+-- at the loop: the call as it was
+abbrev start : tie.At-loop Inv-loop μ-loop → tie.Start Inv-loop μ-loop
+start c = c .before .before .before
+
 begin-requires : tie.Need-begin-requires Inv-loop μ-loop
 begin-requires c κs = tt
 
@@ -37,7 +41,7 @@ loop-again c = (omega arith, rw add-one (passed-next (c .before .before .loop .i
 returns : tie.Need-returns Inv-loop μ-loop
 returns c =
     let i = c .before .loop in
-    let a = c .before .before .before .before .args in
+    let a = start (c .before) .args in
     let e : i .i ≡ a .end = omega (arith, i .inv .0, c .loop-test .left) in
     i .inv .1 .counts ∙ ap (λ k. length (runsOf (blackFar (a .far .now)) k)) e
 

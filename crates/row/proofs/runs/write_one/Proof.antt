@@ -14,8 +14,9 @@ same-length c = search needs
 
 returns : tie.Need-returns
 returns c =
-    let a = c .before .before .before .before .before in
-    c .before .before .write-run .ensures ∙ sym (listed-new [] (record { left = a .args .left; right = a .args .right }) (a .args .runs .now) (a .pre .0))
+    let written = c .before .before in
+    let s = written .before .before .before in
+    written .write-run .ensures ∙ sym (listed-new [] (record { left = s .args .left; right = s .args .right }) (s .args .runs .now) (s .pre .0))
 
 pub write-one-spec : {M : Type 1} → statement M
 write-one-spec = tie.close (tie.spec write-run-requires same-length returns)
