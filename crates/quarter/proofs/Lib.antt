@@ -4,6 +4,7 @@
 --   Progress, Sizes                         every moment: counts, sizes, the end
 --   Quarters, Ranges                        the quarter is a chain; where its corners lie
 --   Nearest, Rules                          the quarter is what the rules of specs/Steps put out
+--   Unique                                  and they put out nothing else
 --   Most, Halving, Stack, Laid              for the code: bounds of machine numbers, the search's loop, the stack, arrays of corners
 --   Cornered                                the answer, by the check of the setting
 pub mod Slope
@@ -21,6 +22,7 @@ pub mod Ranges
 pub mod Most
 pub mod Nearest
 pub mod Rules
+pub mod Unique
 pub mod Theorems
 pub mod Halving
 pub mod Stack

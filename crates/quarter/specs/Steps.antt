@@ -1,6 +1,7 @@
 -- Document 01's "Building the pen" once more, as rules to hold against its words, in its order. They stand by themselves: whole numbers of either sign,
 -- y upwards, no count of rounds, no search, and nothing of Cutting. What a rule says of an edge or a corner it says by an equation for each number.
--- The theorem `quarter-puts` (proofs/Theorems) says that the corners of `quarter` (Cutting) are what these rules put out.
+-- The theorem `quarter-puts` (proofs/Theorems) says that the corners of `quarter` (Cutting) are what these rules put out, and `puts-unique` that they put
+-- out nothing else.
 use mathlib.Core.Path.{_≡_}
 use mathlib.Core.List.{List, [], _∷_}
 use lib.IntN.{ℤ, pos, negℤ, _+ℤ_, _-ℤ_, _*ℤ_}

@@ -10,7 +10,7 @@ use Rattle.setting.specs.Setting.{Taken}
 use Rattle.quarter.specs.declared.Edge.{Edge}
 use Rattle.quarter.specs.NearRoot.{NearRoot, nearRoot}
 use Rattle.quarter.specs.Cutting.{Corner, State, step, put, on, quarter}
-use Rattle.quarter.specs.Steps.{CornerZ, startCorner, startBefore, startAfter, Puts}
+use Rattle.quarter.specs.Steps.{EdgeZ, CornerZ, startCorner, startBefore, startAfter, Puts}
 use Rattle.quarter.specs.Answer.{across, upwards}
 use Rattle.quarter.specs.Moment.{Moment, cornersAt, total, Ready}
 
@@ -26,12 +26,16 @@ abbrev pub StepsFall : Type 0
 StepsFall = (σ : Setting) → Taken σ → (out : List Corner) (t : State) → Moment σ out t →
     ((r : State) → step σ t ≡ put r → total r < total t) × ((r : State) → step σ t ≡ on r → total r < total t)
 
--- "The pen is the one that document 01's steps give": the quarter's corners, y upwards, are what the steps put out from the start
+-- "The pen is the one that document 01's steps give": the quarter's corners, y upwards, are what the steps put out from the start ..
 abbrev pub cornerZ : Corner → CornerZ
 cornerZ c = record { x = across c; y = upwards c }
 
 abbrev pub QuarterPuts : Type 0
 QuarterPuts = (σ : Setting) → Taken σ → Puts σ (startCorner σ) (startBefore σ) (startAfter σ ∷ []) (map cornerZ (quarter σ))
+
+-- .. and the steps put out no other list, from whatever corner and edges, for whatever setting
+abbrev pub PutsUnique : Type 0
+PutsUnique = (σ : Setting) (A : CornerZ) (L : EdgeZ) (edges : List EdgeZ) (cs ds : List CornerZ) → Puts σ A L edges cs → Puts σ A L edges ds → cs ≡ ds
 
 -- at every moment there are at most 33 corners, and where no edge is left those put out are the quarter
 abbrev pub AtMost33 : Type 0
