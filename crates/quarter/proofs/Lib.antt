@@ -4,7 +4,7 @@
 --   Progress, Sizes                         every moment: counts, sizes, the end
 --   Quarters, Ranges                        the quarter is a chain; where its corners lie
 --   Nearest, Rules                          the quarter is what the rules of specs/Steps put out
---   Unique                                  and they put out nothing else
+--   Unique, Lines                           and they put out nothing else; what they come to lies on its lines
 --   Most, Halving, Stack, Laid              for the code: bounds of machine numbers, the search's loop, the stack, arrays of corners
 --   Cornered                                the answer, by the check of the setting
 pub mod Slope
@@ -23,6 +23,7 @@ pub mod Most
 pub mod Nearest
 pub mod Rules
 pub mod Unique
+pub mod Lines
 pub mod Theorems
 pub mod Halving
 pub mod Stack

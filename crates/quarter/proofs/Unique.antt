@@ -71,7 +71,7 @@ out-or-cut (spent h b j) k a i = clashℤ i (rw (amount-one b a) at j)
 edge-one : {E F : EdgeZ} → E .u ≡ F .u → E .v ≡ F .v → E .c ≡ F .c → E .l1 ≡ F .l1 → E .l2 ≡ F .l2 → E ≡ F
 edge-one u v c l1 l2 = λ i. record { u = u i; v = v i; c = c i; l1 = l1 i; l2 = l2 i }
 
-corner-one : {A B : CornerZ} → A .x ≡ B .x → A .y ≡ B .y → A ≡ B
+pub corner-one : {A B : CornerZ} → A .x ≡ B .x → A .y ≡ B .y → A ≡ B
 corner-one x y = λ i. record { x = x i; y = y i }
 
 -- what a round leaves: the next corner, the edge before it and the edges after it

@@ -142,3 +142,23 @@ pub data Puts (σ : Setting) : CornerZ → EdgeZ → List EdgeZ → List CornerZ
       Puts σ A L (R ∷ rest) (A ∷ cs)
   cuts : {A C : CornerZ} {s : ℤ} {L R K : EdgeZ} {rest after : List EdgeZ} {cs : List CornerZ} → turn L R ≼ pos 1 → Amount σ L R s → pos 0 ≺ s →
       Cut σ A s L R rest C K after → Puts σ C K after cs → Puts σ A L (R ∷ rest) cs
+
+-- What the steps come to from the start: a corner, the edge before it and the edges after it
+pub data Comes (σ : Setting) : CornerZ → EdgeZ → List EdgeZ → Type 0 where
+  start : Comes σ (startCorner σ) (startBefore σ) (startAfter σ ∷ [])
+  putting : {A C : CornerZ} {L R K : EdgeZ} {rest : List EdgeZ} → Comes σ A L (R ∷ rest) → Out σ L R → Dropped A R C K → Comes σ C K rest
+  cutting : {A C : CornerZ} {s : ℤ} {L R K : EdgeZ} {rest after : List EdgeZ} → Comes σ A L (R ∷ rest) → turn L R ≼ pos 1 → Amount σ L R s → pos 0 ≺ s →
+      Cut σ A s L R rest C K after → Comes σ C K after
+
+-- "it lies on v*x - u*y = c": so does the corner A
+abbrev pub On : CornerZ → EdgeZ → Type 0
+On A E = E .v *ℤ A .x -ℤ E .u *ℤ A .y ≡ E .c
+
+-- the end of the edge E that starts at A: "its retained point is l1 directions after its start and l2 before its end"
+abbrev pub endOf : CornerZ → EdgeZ → CornerZ
+endOf A E = record { x = A .x +ℤ allOf E *ℤ E .u; y = A .y +ℤ allOf E *ℤ E .v }
+
+-- the first edge starts at A and each other where the one before it ends, and they lie on their lines
+pub data Lie : CornerZ → List EdgeZ → Type 0 where
+  none-lies : {A : CornerZ} → Lie A []
+  edge-lies : {A : CornerZ} {E : EdgeZ} {es : List EdgeZ} → On A E → Lie (endOf A E) es → Lie A (E ∷ es)

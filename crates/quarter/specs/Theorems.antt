@@ -10,7 +10,7 @@ use Rattle.setting.specs.Setting.{Taken}
 use Rattle.quarter.specs.declared.Edge.{Edge}
 use Rattle.quarter.specs.NearRoot.{NearRoot, nearRoot}
 use Rattle.quarter.specs.Cutting.{Corner, State, step, put, on, quarter}
-use Rattle.quarter.specs.Steps.{EdgeZ, CornerZ, startCorner, startBefore, startAfter, Puts}
+use Rattle.quarter.specs.Steps.{EdgeZ, CornerZ, startCorner, startBefore, startAfter, Puts, Comes, On, Lie}
 use Rattle.quarter.specs.Answer.{across, upwards}
 use Rattle.quarter.specs.Moment.{Moment, cornersAt, total, Ready}
 
@@ -36,6 +36,11 @@ QuarterPuts = (σ : Setting) → Taken σ → Puts σ (startCorner σ) (startBef
 -- .. and the steps put out no other list, from whatever corner and edges, for whatever setting
 abbrev pub PutsUnique : Type 0
 PutsUnique = (σ : Setting) (A : CornerZ) (L : EdgeZ) (edges : List EdgeZ) (cs ds : List CornerZ) → Puts σ A L edges cs → Puts σ A L edges ds → cs ≡ ds
+
+-- "An edge has a direction (u, v), an offset c (it lies on v*x - u*y = c), and counts l1, l2": whatever the steps come to, the corner is on the line of the edge
+-- before it, and the edges after it, each l1 + l2 directions long, lie on theirs
+abbrev pub EdgesLie : Type 0
+EdgesLie = (σ : Setting) (A : CornerZ) (L : EdgeZ) (edges : List EdgeZ) → Comes σ A L edges → On A L × Lie A edges
 
 -- at every moment there are at most 33 corners, and where no edge is left those put out are the quarter
 abbrev pub AtMost33 : Type 0
