@@ -5,7 +5,7 @@ use mathlib.Core.Bool.{true}
 use mathlib.Core.List.{List, [], _∷_}
 use Prim.Native.Nat.{ℕ, _+_, _-_, _*_, _≤_, _<_}
 use lib.ListN.{length, getD}
-use lib.IntN.{ℤ, pos}
+use lib.IntN.{ℤ, pos, _-ℤ_, _*ℤ_}
 use Rattle.integers.specs.Orders.{_≼_}
 use Rattle.integers.specs.Count.{_∈_}
 use Rattle.plane.specs.Point.{Pt, pt}
@@ -15,7 +15,7 @@ use Rattle.stroke.specs.Sides.{sides}
 use Rattle.stroke.specs.Black.{KeptLaws, Black, BlackPath}
 use Rattle.stroke.specs.Extent.{blackTest, In, extent}
 use Rattle.stroke.specs.Runs.{Run, Longest, rowRuns}
-use Rattle.stroke.specs.Weight.{WeightOfRows, WeightOfColumn}
+use Rattle.stroke.specs.Weight.{offset, WeightOfRows, WeightOfColumn}
 
 -- what is claimed holds of every pen with the laws: of its corners, its width and its height, in half pixels
 abbrev pub EveryPen : (List Pt → ℤ → ℤ → Type 0) → Type 0
@@ -61,6 +61,11 @@ RunsLongest = EveryPen λ cs Dx Dy. (path : List Pt) (columns j : ℕ) → Longe
 
 abbrev pub LongestUnique : Type 1
 LongestUnique = (black : ℕ → Type 0) (n : ℕ) (rs ss : List Run) → Longest black n rs → Longest black n ss → rs ≡ ss
+
+-- demand 3's c: "the greatest v times x minus u times y over the pen's corners". Some corner has that value, and none has a greater one
+abbrev pub OffsetGreatest : Type 0
+OffsetGreatest = EveryPen λ cs Dx Dy. (u : ℤ) (v : ℕ) →
+    ((z : Pt) × (z ∈ cs) × (pos v *ℤ z .x -ℤ u *ℤ z .y ≡ offset cs u v)) × ((z : Pt) → z ∈ cs → pos v *ℤ z .x -ℤ u *ℤ z .y ≼ offset cs u v)
 
 -- 5. and 6. line weight over pixels; the top of Weight tells why it is true
 abbrev pub RowsHold : Type 0
