@@ -6,7 +6,7 @@ use Rattle.setting.specs.declared.Setting.{Setting}
 use Rattle.setting.specs.Setting.{Taken}
 use Rattle.aperture.specs.declared.Place.{Place}
 use Rattle.aperture.specs.declared.Table.{Table}
-use Rattle.aperture.specs.Table.{vacant, holding, isNumber, empty, placeOf, defined, removed}
+use Rattle.aperture.specs.Table.{vacant, holding, isNumber, isHeld, empty, placeOf, defined, removed}
 
 -- the tables that the calls make from the empty one
 pub data Reachable : Table → Type 0 where
