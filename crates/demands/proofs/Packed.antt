@@ -12,8 +12,8 @@ use Rattle.pen.specs.Answer.{penCorners}
 use Rattle.checks.specs.declared.Answer.{Answer}
 use Rattle.checks.proofs.Given.{zero-gave}
 use Rattle.packed.specs.Packed.{packedOver, packedOffer}
-use Rattle.packed.proofs.Demands.{packed-call-is, row-stored}
-use Rattle.packed.proofs.Theorems.{over-bits, over-rest}
+use Rattle.packed.proofs.Stored.{packed-call-is, row-stored}
+use Rattle.packed.proofs.Bits.{over-bits, over-rest}
 use Rattle.host.specs.Host.{hostVerdict, hostPackedRow}
 use Rattle.demands.specs.Reports.{heard}
 use Rattle.demands.specs.Packs.{Packs, packed-row, packed-for, c-packed-row}

@@ -29,7 +29,7 @@ use Rattle.checks.specs.Checks.{callVerdict}
 use Rattle.checks.proofs.Verdicts.{verdict-not-zero}
 use Rattle.checks.proofs.Given.{zero-gave}
 use Rattle.row.specs.Answer.{flat, listed}
-use Rattle.row.proofs.Demands.{Filled, row-filled, answered-filled}
+use Rattle.row.proofs.Filled.{Filled, row-filled, call-filled}
 use Rattle.records.specs.declared.Run as records
 use Rattle.records.specs.Records.{recordsCall}
 use Rattle.records.specs.Theorems.{recordsOf, recordsOffer}
@@ -101,7 +101,7 @@ c-reported σ bytes columns rows j before after answer e z =
 -- whichever call it is
 pub reports-is : {cs : List Pt} {p : List ℤ} {columns rows j : ℕ} {rs : List Run} → Reports cs p columns rows j rs → rs ≡ rowRuns cs (pathPoints p) columns j
 reports-is {p = p} {columns} {rows} {j} (row-runs h q before after a e z) =
-    filled-reported p columns rows j (answered-filled h (record { promise = e; done = z })) ∙ ap (runs p columns rows j) q
+    filled-reported p columns rows j (call-filled h p columns rows j before a after e z) ∙ ap (runs p columns rows j) q
 reports-is {p = p} {columns} {rows} {j} (runs-for pen q before after a e z) =
     filled-reported p columns rows j (row-filled (penCorners pen) p columns rows j before a after e z) ∙ ap (runs p columns rows j) q
 reports-is {p = p} {columns} {rows} {j} (row-records h q before after a e z) = records-reported p columns rows j h before after a e z ∙ ap (runs p columns rows j) q

@@ -1,4 +1,4 @@
--- The claim of specs/Theorems.antt, under its name there.
+-- The bits of what a packed row leaves: those of the pixels that are black by existence; and the rest of the buffer.
 use Prim.Native.Nat.{ℕ, _+_, _*_, _/_, _%_, _-_, _^_, _<_}
 use mathlib.Core.Bool.{Bool, true, false, cond, _&&_}
 use mathlib.Core.Path.{_≡_, refl, sym, ap, _∙_}
@@ -11,8 +11,6 @@ use lib.ListN.{getD, drop, List·getD-append}
 use lib.Seq.{drop-at}
 use lib.IntN.{ℤ, pos}
 use Rattle.integers.proofs.Tests.{clash}
-use Rattle.pen.specs.Polygon.{pen}
-use Rattle.pen.proofs.Theorems.{pen-is-pen}
 use Rattle.stroke.specs.Runs.{blackAt}
 use Rattle.stroke.proofs.Path.{black-path}
 use Rattle.plane.specs.Point.{Pt}
@@ -20,8 +18,6 @@ use Rattle.plane.specs.Polygon.{PenLaws}
 use Rattle.stroke.specs.Sweep.{centre, pathPoints}
 use Rattle.stroke.specs.Black.{BlackPath}
 use Rattle.packed.specs.Packed.{packed, packedLength, packedOver}
-use Rattle.packed.specs.Theorems.{PackedDraws}
-use Rattle.packed.proofs.Demands.{packed-call-is, row-stored}
 use Rattle.packed.proofs.PackedRow.{packed-length, packed-bit}
 
 -- a bit is 1 when both of its tests are passed
@@ -54,9 +50,3 @@ module _ (cs : List Pt) (Dx Dy : ℤ) (laws : PenLaws cs Dx Dy) (p : List ℤ) (
   over-rest =
       ap (drop (packedLength columns)) e
       ∙ drop-at (packed (λ x. blackAt cs (pathPoints p) (pos j) (pos x)) columns) (drop (packedLength columns) before) (packedLength columns) (packed-length _ columns)
-
-pub packed-draws : PackedDraws
-packed-draws t n σ h p columns rows j before answer after e z =
-    let s = row-stored (pen σ) p columns rows j before answer after (e ∙ packed-call-is h p columns rows j before) z in
-    let laws = pen-is-pen σ (h .taken) in
-    record { count = s .count; bits = over-bits (pen σ) _ _ laws p columns j before after (s .left); rest = over-rest (pen σ) _ _ laws p columns j before after (s .left) }
