@@ -37,7 +37,7 @@ c-over : (σ : Setting) (bytes : List ℕ) (columns rows j : ℕ) (before after 
 unfolding hostPackedRow
 c-over σ bytes columns rows j before after answer e z =
     let g = zero-gave (packedOffer (pen σ) (entriesOf bytes) columns j before) (hostVerdict σ bytes columns rows j) (host-not-zero σ bytes columns rows j) (heard answer) after
-        (ap taken-apart e ∙ packed-apart σ bytes columns rows j before) z in
+    (ap taken-apart e ∙ packed-apart σ bytes columns rows j before) z in
     record { bytes = g .count; left = g .left }
 
 packs-over : {cs : List Pt} {p : List ℤ} {columns rows j count : ℕ} {before after : List ℕ} → Packs cs p columns rows j count before after → Over cs p columns j count before after

@@ -84,7 +84,7 @@ module _ (p : List ℤ) (columns rows j : ℕ) where
   records-reported {t} {n} h before after a e z =
       let checks = callVerdict (lookedVerdict (looked t n)) p columns rows j in
       let g = zero-gave (recordsOffer (runs (heldCorners t n)) before) checks (then-not-zero (lookedVerdict (looked t n)) _ (look-not-zero (looked t n)) (verdict-not-zero p columns rows j)) a after
-          (e ∙ records-given t n p columns rows j before) z in
+      (e ∙ records-given t n p columns rows j before) z in
       ap₂ runsInRecords (g .count) (g .left) ∙ records-runs (runs (heldCorners t n)) _ ∙ ap runs (held-corners h)
 
   filled-reported : {rs : List Run} {before after : List ℕ} {a : Answer} → Filled rs before a after → runsIn (a .count) after ≡ rs
