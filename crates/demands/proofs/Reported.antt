@@ -91,11 +91,13 @@ module _ (p : List ℤ) (columns rows j : ℕ) where
   filled-reported {rs} {before} f = ap₂ runsIn (f .count) (f .left) ∙ listed-runs rs before
 
 c-reported : (σ : Setting) (bytes : List ℕ) (columns rows j : ℕ) (before after : List ℕ) (answer : ℕ) →
-    record { answer = answer; bytes = after } ≡ hostRow σ bytes columns rows j before → heard answer .refusal ≡ 0 → runsInBytes (heard answer .count) after ≡ runs (entriesOf bytes) columns rows j (pen σ)
+    record { answer = answer; bytes = after } ≡ hostRow σ bytes columns rows j before → heard answer .refusal ≡ 0 →
+    runsInBytes (heard answer .count) after ≡ runs (entriesOf bytes) columns rows j (pen σ)
 unfolding hostRow
 c-reported σ bytes columns rows j before after answer e z =
     let rs = runs (entriesOf bytes) columns rows j (pen σ) in
-    let g = zero-gave (runBytesOffer rs before) (hostVerdict σ bytes columns rows j) (host-not-zero σ bytes columns rows j) (heard answer) after (ap taken-apart e ∙ runs-apart σ bytes columns rows j before) z in
+    let same = ap taken-apart e ∙ runs-apart σ bytes columns rows j before in
+    let g = zero-gave (runBytesOffer rs before) (hostVerdict σ bytes columns rows j) (host-not-zero σ bytes columns rows j) (heard answer) after same z in
     ap₂ runsInBytes (g .count) (g .left) ∙ bytes-runs rs _
 
 -- whichever call it is
