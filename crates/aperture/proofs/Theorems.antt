@@ -67,6 +67,9 @@ defined-done t n σ z = elim (defined-case t n σ) [ inl k ↦ absurd (k .says z
 removed-done : (t : Table) (n : ℕ) → removed t n .refusal ≡ 0 → Removes t n
 removed-done t n z = elim (removed-case t n) [ inl k ↦ absurd (k .says z) | inr d ↦ d ]
 
+pub defined-parts : (t : Table) (n : ℕ) (σ : Setting) → defined t n σ .refusal ≡ 0 → (isNumber n ≡ true) × (taken σ ≡ true)
+defined-parts t n σ z = let d = defined-done t n σ z in (d .is-number, d .is-taken)
+
 defined-table : {t : Table} {n : ℕ} {σ : Setting} → Defines t n σ → defined t n σ .table ≡ withPlace t n (holding σ)
 defined-table d = ap (λ (k : Changed). k .table) (d .gives)
 
@@ -141,9 +144,9 @@ removed-again t r n σ k z =
 
 -- ---- what looking up says
 -- a place in use of a reachable table holds a setting within the limits, and that setting's pen
-used-holds : {p : Place} → Sound p → p .used ≡ true → (σ : Setting) × Taken σ × (p ≡ holding σ)
-used-holds nothing e = absurd (let z : _≡_ {A = ℕ} 0 1 = cc in omega arith)
-used-holds (some {σ} k) e = (σ, k, refl)
+pub used-place : {p : Place} → Sound p → p .used ≡ true → (σ : Setting) × Taken σ × (p ≡ holding σ)
+used-place nothing e = absurd (let z : _≡_ {A = ℕ} 0 1 = cc in omega arith)
+used-place (some {σ} k) e = (σ, k, refl)
 
 looked-case : (t : Table) (n : ℕ) → ((isHeld t n ≡ false) × (looked t n ≡ looked·.Refused)) ⊎ ((isHeld t n ≡ true) × (looked t n ≡ looked·.At (n - apertureMin)))
 looked-case t n = go (isHeld t n) refl
@@ -164,7 +167,7 @@ pub looked-place : (t : Table) → Reachable t → (n i : ℕ) → looked t n �
 looked-place t r n i e =
     let h = looked-held t n i e in
     let b = held-parts t n (h .0) in
-    let k = used-holds (sound r n) (b .1) in
+    let k = used-place (sound r n) (b .1) in
     (k .0, k .1, ap (λ (j : ℕ). getD (t .places) j vacant) (sym (h .1)) ∙ k .2, looked-small t n i e)
 
 pub looked-refused : (t : Table) (n : ℕ) → looked t n ≡ looked·.Refused → isHeld t n ≡ false

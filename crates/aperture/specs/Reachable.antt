@@ -6,7 +6,7 @@ use Rattle.setting.specs.declared.Setting.{Setting}
 use Rattle.setting.specs.Setting.{Taken}
 use Rattle.aperture.specs.declared.Place.{Place}
 use Rattle.aperture.specs.declared.Table.{Table}
-use Rattle.aperture.specs.Table.{vacant, holding, isNumber, empty, placeOf, defined, removed}
+use Rattle.aperture.specs.Table.{vacant, holding, isNumber, isHeld, empty, placeOf, defined, removed}
 
 -- the tables that the calls make from the empty one
 pub data Reachable : Table → Type 0 where
@@ -48,3 +48,17 @@ RefusalKeeps = (t : Table) (n : ℕ) (σ : Setting) → (¬ (defined t n σ .ref
 
 abbrev pub RemovedAgain : Type 0
 RemovedAgain = (t : Table) → Reachable t → (n : ℕ) (σ : Setting) → Taken σ → removed t n .refusal ≡ 0 → defined (removed t n .table) n σ .refusal ≡ 0
+
+-- So `Holds`, which statements about calls ask for, is delivered: a definition that succeeds gives it, and nothing takes it away but removing that aperture
+abbrev pub DefinedGives : Type 0
+DefinedGives = (t : Table) → Reachable t → (n : ℕ) (σ : Setting) → defined t n σ .refusal ≡ 0 → Holds (defined t n σ .table) n σ
+
+abbrev pub DefiningKeeps : Type 0
+DefiningKeeps = (t : Table) (n m : ℕ) (σ τ : Setting) → Holds t n σ → Holds (defined t m τ .table) n σ
+
+abbrev pub RemovingKeeps : Type 0
+RemovingKeeps = (t : Table) (n m : ℕ) (σ : Setting) → ¬ (n ≡ m) → Holds t n σ → Holds (removed t m .table) n σ
+
+-- and an aperture in use of a table so made holds some setting
+abbrev pub UsedHolds : Type 0
+UsedHolds = (t : Table) → Reachable t → (n : ℕ) → isHeld t n ≡ true → (σ : Setting) × Holds t n σ

@@ -69,7 +69,9 @@ abbrev rows : ℕ → List ℕ
 rows j = packed (λ x. anyBelow (λ k. blackAt (pen dotSetting) (pathPoints (pathOf (0 ∷ 2 ∷ []) dotPath k)) (pos j) (pos x)) 1) 5
 
 bytes : file 5 3 rows ≡ dotBytes
-unfolding taken Dx Dy norm lower tried bisect nearRoot amount retained corners quarter upAndBack onceEach pen chain edges furthest sides kept inRange narrowed extent pathPoints bitsFrom bytesFrom lastDigits topFirst anyBelow
+unfolding
+    taken Dx Dy norm lower tried bisect nearRoot amount retained corners quarter upAndBack onceEach pen chain edges
+    furthest sides kept inRange narrowed extent pathPoints bitsFrom bytesFrom lastDigits topFirst anyBelow
 bytes = refl
 
 pub dot-film : DotFilm

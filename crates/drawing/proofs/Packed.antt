@@ -19,7 +19,7 @@ use Rattle.checks.specs.Checks.{verdict}
 use Rattle.checks.specs.Answer.{Result}
 use Rattle.stroke.specs.Sweep.{pathPoints}
 use Rattle.packed.specs.Packed.{bitsFrom, bytesFrom, packed, packedLength, packResult, packedCall}
-use Rattle.packed.proofs.Demands.{packed-call-is}
+use Rattle.packed.proofs.Stored.{packed-call-is}
 use Rattle.aperture.specs.Reachable.{Holds}
 use Rattle.drawing.specs.Film.{Drawing, laidOver, added, pathOf, rowUpTo}
 use Rattle.drawing.specs.Theorems.{anyBelow, Drawable, FilmRow}

@@ -1,6 +1,6 @@
 -- How long a film is, and what is answered where it is put and where it is refused.
 use Prim.Native.Nat.{ℕ, zero, suc, _+_, _*_, _≤_}
-use native.Mathlib.Nat.{suc-mul, mul-le-mul}
+use native.Mathlib.Nat.{mul-le-mul}
 use native.Mathlib.Omega.{arith}
 use mathlib.Core.Path.{_≡_, refl, sym, ap, _∙_}
 use mathlib.Core.Bool.{Bool, true, false, _&&_}
@@ -21,6 +21,7 @@ use Rattle.packed.specs.Packed.{packedLength}
 use Rattle.pbm.specs.Pbm.{decimal, header, topFirst, started, headerPut}
 use Rattle.pbm.proofs.Decimal.{size-few}
 use Rattle.pbm.proofs.Pieces.{header-length}
+use Rattle.pbm.proofs.Theorems.{top-first}
 use Rattle.drawing.specs.Film.{Drawing, rowUpTo, rowOf, film, filmLength, fileOffer, filmPut, Raster}
 use Rattle.drawing.proofs.Over.{over-length}
 use Rattle.drawing.proofs.Rows.{put-whole}
@@ -31,15 +32,12 @@ unfolding rowUpTo
 row-long d columns rows j width zero = length-replicate width 0
 row-long d columns rows j width (suc k) = over-length (rowUpTo d columns rows j width k) _ ∙ row-long d columns rows j width k
 
-rows-long : (f : ℕ → List ℕ) (w : ℕ) → ((j : ℕ) → length (f j) ≡ w) → (n : ℕ) → length (topFirst n f) ≡ n * w
-unfolding topFirst
-rows-long f w h zero = omega arith
-rows-long f w h (suc n) = length-append (f n) (topFirst n f) ∙ rw (h n, rows-long f w h n, suc-mul n w) (omega arith)
-
 pub film-long : (d : Drawing) (columns rows : ℕ) → length (film d columns rows) ≡ filmLength columns rows
 film-long d columns rows =
-    length-append (header columns rows) (topFirst rows (rowOf d columns rows (packedLength columns)))
-    ∙ ap (λ (n : ℕ). length (header columns rows) + n) (rows-long (rowOf d columns rows (packedLength columns)) (packedLength columns) (λ j. row-long d columns rows j (packedLength columns) (length (d .apertures))) rows)
+    let width = packedLength columns in
+    let row = rowOf d columns rows width in
+    let long = top-first rows width row (λ j _. row-long d columns rows j width (length (d .apertures))) .size in
+    length-append (header columns rows) (topFirst rows row) ∙ ap (λ (n : ℕ). length (header columns rows) + n) long
 
 -- ---- how long it is at most
 -- a header has at most 15 bytes, and a packed row 2,048

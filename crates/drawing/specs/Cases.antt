@@ -30,7 +30,9 @@ dotBytes = 80 ∷ 52 ∷ 10 ∷ 53 ∷ 32 ∷ 51 ∷ 10 ∷ 0 ∷ 32 ∷ 0 ∷ [
 
 -- the file of the pixels that are black by the rules
 pub dot-file : file 5 3 (λ j. packed (λ x. blackAt (pen dotSetting) (pathPoints dotPath) (pos j) (pos x)) 5) ≡ dotBytes
-unfolding taken Dx Dy norm lower tried bisect nearRoot amount retained corners quarter upAndBack onceEach pen chain edges furthest sides kept inRange narrowed extent pathPoints bitsFrom bytesFrom lastDigits topFirst
+unfolding
+    taken Dx Dy norm lower tried bisect nearRoot amount retained corners quarter upAndBack onceEach pen chain edges
+    furthest sides kept inRange narrowed extent pathPoints bitsFrom bytesFrom lastDigits topFirst
 dot-file = refl
 
 -- the drawing that has this dot only, with aperture 10; its film is that file (proofs/Dot.antt)

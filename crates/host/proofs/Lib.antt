@@ -3,7 +3,9 @@
 --   Verdicts  the checks over a path of bytes, and how small the numbers of a refusal are
 --   Outcomes  a row's answer as the host is told it
 --   Settings  the setting of a call: refused, or its pen is held
+--   Theorems  what the bytes of runs are, by value
 pub mod Words
 pub mod Verdicts
 pub mod Outcomes
 pub mod Settings
+pub mod Theorems

@@ -33,7 +33,7 @@ use Rattle.host.proofs.Words.{run-words}
 
 -- ---- the numbers fit
 -- what a call answers fits one number, where its refusals are small and it has not too much to give
-given-fit : (v : Verdict) (o : Offer ℕ) → Small entriesMax v → (v ≡ Passed → o .count ≤ entriesMax) → Fit (given v o .answer)
+pub given-fit : (v : Verdict) (o : Offer ℕ) → Small entriesMax v → (v ≡ Passed → o .count ≤ entriesMax) → Fit (given v o .answer)
 given-fit (Refused n place) o s h = record { refusal = omega (arith, s .1); place = omega (arith, s .2); count = omega arith }
 given-fit Passed o s h = go (leb (o .count) (o .space))
   where
@@ -46,10 +46,10 @@ pub refused-fit : (n : ℕ) → n < 256 → Fit (answerOf (Refused n 0))
 refused-fit n h = record { refusal = h; place = omega arith; count = omega arith }
 
 -- a row within the raster has at most 8,192 runs, and fills at most 2,048 bytes
-runs-fit : (cs : List Pt) (path : List ℤ) (columns rows j : ℕ) → verdict path columns rows j ≡ Passed → length (rowRuns cs (pathPoints path) columns j) ≤ entriesMax
+pub runs-fit : (cs : List Pt) (path : List ℤ) (columns rows j : ℕ) → verdict path columns rows j ≡ Passed → length (rowRuns cs (pathPoints path) columns j) ≤ entriesMax
 runs-fit cs path columns rows j e = omega (arith, runs-few (λ x. blackAt cs (pathPoints path) (pos j) (pos x)) columns, verdict-passed path columns rows j e .size .few)
 
-bytes-fit : (path : List ℤ) (columns rows j : ℕ) → verdict path columns rows j ≡ Passed → packedLength columns ≤ entriesMax
+pub bytes-fit : (path : List ℤ) (columns rows j : ℕ) → verdict path columns rows j ≡ Passed → packedLength columns ≤ entriesMax
 bytes-fit path columns rows j e = omega (arith, verdict-passed path columns rows j e .size .few)
 
 -- ---- the packed row

@@ -1,3 +1,2 @@
--- In the order of document 01; then what is proved.
+-- In the order of document 01. What is proved of the answers is in the crate demands.
 pub mod Packed
-pub mod Theorems

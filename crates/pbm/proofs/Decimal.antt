@@ -18,20 +18,20 @@ glyph-digit : (d : ℕ) → d < 10 → glyph d ≡ digit d
 glyph-digit d h = rw (lt-ltb d 10 h)
 
 -- a number below 10 is one digit, and any other has one digit more than its tenth
-one : (f n : ℕ) → n < 10 → lastDigits (suc f) n ≡ digit n ∷ []
+pub one-digit : (f n : ℕ) → n < 10 → lastDigits (suc f) n ≡ digit n ∷ []
 unfolding lastDigits
-one f n h = rw (lt-ltb n 10 h, lastDigits)
+one-digit f n h = rw (lt-ltb n 10 h, lastDigits)
 
-more : (f n : ℕ) → 10 ≤ n → lastDigits (suc f) n ≡ lastDigits f (n / 10) ++ (digit (n % 10) ∷ [])
+pub digit-more : (f n : ℕ) → 10 ≤ n → lastDigits (suc f) n ≡ lastDigits f (n / 10) ++ (digit (n % 10) ∷ [])
 unfolding lastDigits
-more f n h = rw (le-ltb n 10 h, lastDigits)
+digit-more f n h = rw (le-ltb n 10 h, lastDigits)
 
 -- the digits that `io::decimal` writes, k + 1 of them, where neither fewer would hold the number nor more be needed
 last-digits : (k n f : ℕ) → n < 10 ^ suc k → (0 < k → 10 ^ k ≤ n) → n < f → digits 10 (suc k) n ≡ lastDigits f n
 last-digits k n zero h l b = absurd (omega arith)
 last-digits zero n (suc f) h l b =
     let s : n < 10 = omega arith in
-    rw (mod-eq-of-lt s, glyph-digit n s, one f n s)
+    rw (mod-eq-of-lt s, glyph-digit n s, one-digit f n s)
 last-digits (suc k) n (suc f) h l b =
     let big : 10 ^ suc k ≤ n = l (omega arith) in
     let p : 1 ≤ 10 ^ k = one-le-pow k 10 (omega arith) in
@@ -40,7 +40,7 @@ last-digits (suc k) n (suc f) h l b =
     let least : 10 ^ k ≤ n / 10 = le-div-iff-mul-le {k = 10} (omega arith) .1 (omega arith) in
     let less : n / 10 < f = omega (arith, div-lt-self {n = n} {k = 10} (omega arith) (omega arith)) in
     let e = last-digits k (n / 10) f most (λ _. least) less in
-    rw (glyph-digit (n % 10) (mod-lt n (omega arith)), more f n s, e)
+    rw (glyph-digit (n % 10) (mod-lt n (omega arith)), digit-more f n s, e)
 
 pub is-decimal : (n r : ℕ) → Fewest 10 1 n r → digits 10 r n ≡ decimal n
 is-decimal n zero h = absurd (omega arith)
@@ -77,12 +77,12 @@ nothing n = refl
 
 few : (k n f : ℕ) → n < 10 ^ suc k → length (lastDigits f n) ≤ suc k
 few k n zero h = let l = ap length (nothing n) in omega (arith, l)
-few zero n (suc f) h = let s : n < 10 = omega arith in let l = ap length (one f n s) in omega (arith, l)
+few zero n (suc f) h = let s : n < 10 = omega arith in let l = ap length (one-digit f n s) in omega (arith, l)
 few (suc k) n (suc f) h = go (ltb n 10) refl (few k (n / 10) f (div-lt-iff-lt-mul {k = 10} (omega arith) .1 (omega arith)))
   where
     go : (b : Bool) → ltb n 10 ≡ b → length (lastDigits f (n / 10)) ≤ suc k → length (lastDigits (suc f) n) ≤ suc (suc k)
-    go true e r = let l = ap length (one f n (ltb-true n 10 e)) in omega (arith, l)
-    go false e r = let l = ap length (more f n (ltb-false n 10 e)) ∙ length-append (lastDigits f (n / 10)) (digit (n % 10) ∷ []) in omega (arith, l, r)
+    go true e r = let l = ap length (one-digit f n (ltb-true n 10 e)) in omega (arith, l)
+    go false e r = let l = ap length (digit-more f n (ltb-false n 10 e)) ∙ length-append (lastDigits f (n / 10)) (digit (n % 10) ∷ []) in omega (arith, l, r)
 
 pub size-few : (n : ℕ) → isSize n ≡ true → length (decimal n) ≤ 5
 size-few n h =

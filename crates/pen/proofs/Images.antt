@@ -17,7 +17,7 @@ map-mem f [] m = absurd (List·Memᴰ·not-nil m)
 map-mem f (x ∷ l) (List·Memᴰ·head e) = (x, List·Memᴰ·head refl, e)
 map-mem f (x ∷ l) (List·Memᴰ·tail m) = let r = map-mem f l m in (r .0, List·Memᴰ·tail (r .1), r .2)
 
-mem-map : {A B : Type 0} (f : A → B) (l : List A) {x : A} → x ∈ l → f x ∈ map f l
+pub mem-map : {A B : Type 0} (f : A → B) (l : List A) {x : A} → x ∈ l → f x ∈ map f l
 mem-map f [] m = absurd (List·Memᴰ·not-nil m)
 mem-map f (y ∷ l) (List·Memᴰ·head e) = List·Memᴰ·head (ap f e)
 mem-map f (y ∷ l) (List·Memᴰ·tail m) = List·Memᴰ·tail (mem-map f l m)

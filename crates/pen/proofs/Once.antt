@@ -32,12 +32,12 @@ linked-map R t f p [] h = h
 linked-map R t f p (r ∷ l) h = (h .0, linked-map R t f r l (h .1))
 
 -- the test of equal points
-same-eq : (p r : Pt) → same p r ≡ true → p ≡ r
+pub same-eq : (p r : Pt) → same p r ≡ true → p ≡ r
 same-eq p r e =
     let h = and-both (eqZ (p .x) (r .x)) (eqZ (p .y) (r .y)) e in
     λ i. pt (eqz (p .x) (r .x) (h .0) i) (eqz (p .y) (r .y) (h .1) i)
 
-eq-same : (p r : Pt) → p ≡ r → same p r ≡ false → ⊥
+pub eq-same : (p r : Pt) → p ≡ r → same p r ≡ false → ⊥
 eq-same p r e f = clash (ap₂ _&&_ (eq-iff (p .x) (p .x) .1 refl) (eq-iff (p .y) (p .y) .1 refl)) (subst (λ (w : Pt). same p w ≡ false) (sym e) f)
 
 -- what is left, each once, is nothing (then all were f), or begins with the same corner and is linked

@@ -1,13 +1,14 @@
--- The built pen satisfies the laws of a pen, and has at most four times as many corners as its quarter: from the chain of the quarter, in naturals with y
--- downwards, to a convex quarter in whole numbers with y upwards.
+-- The built pen satisfies the laws of a pen, has the mirror images of its quarter's corners, each once, and at most four times as many as the quarter: from
+-- the chain of the quarter, in naturals with y downwards, to a convex quarter in whole numbers with y upwards.
 use Prim.Native.Nat.{ℕ, _-_, _≤_, _<_}
 use mathlib.Core.Path.{_≡_, sym, ap, subst}
+use mathlib.Core.Logic.{_↔_}
 use mathlib.Core.List.{List, [], _∷_, map}
 use lib.ListN.{length, length-map}
 use native.Mathlib.Omega.{arith}
 use lib.IntN.{ℤ, pos, negℤ, _+ℤ_, _-ℤ_, _*ℤ_}
 use Rattle.integers.specs.Orders.{_≼_, _≺_}
-use Rattle.integers.specs.Count.{_∈_}
+use Rattle.integers.specs.Count.{_∈_, NoDup}
 use Rattle.integers.proofs.Ring.{ring, reify, _⊢_}
 use Rattle.limits.specs.Sizes.{penMax}
 use Rattle.setting.specs.declared.Setting.{Setting}
@@ -16,15 +17,18 @@ use Rattle.quarter.specs.Cutting.{Corner, quarter}
 use Rattle.plane.specs.Point.{Pt}
 use Rattle.pen.specs.Polygon.{upward, upAndBack, around, closed, whole, pen}
 use Rattle.plane.specs.Polygon.{dot, edge, PenLaws}
+use Rattle.pen.specs.Theorems.{AsFar}
 use Rattle.setting.proofs.Limits.{box-wide, box-high}
 use Rattle.quarter.proofs.Naturals.{le-pos, lt-pos, diff-pos}
 use Rattle.quarter.proofs.Chain.{Chain, stop, link}
 use Rattle.quarter.proofs.Ranges.{x-range, y-range, quarter-few-corners, quarter-cons, quarter-split, quarter-lowest}
 use Rattle.pen.proofs.Convex.{Adjacent, here, there, Inside, inside-all, adjacent-on}
 use Rattle.pen.proofs.Once.{once-few}
-use Rattle.pen.proofs.Images.{map-mem, around-length}
+use Rattle.pen.proofs.Images.{Image, map-mem, mem-map, around-length}
 use Rattle.pen.proofs.Fits.{Rises, Steps, Low, IsQuarter}
-use Rattle.pen.proofs.Whole.{pen-of}
+use Rattle.pen.proofs.Whole.{image, corner, pen-of}
+use Rattle.pen.proofs.EachOnce.{ring-once}
+use Rattle.pen.proofs.Distances.{image-far, far-image}
 
 flip-le : (a b : ℤ) → a ≼ b → negℤ b ≼ negℤ a
 flip-le = ring 2 _ (simp reify (omega arith))
@@ -82,6 +86,27 @@ module _ (σ : Setting) (τ : Taken σ) where
   pub is-pen : PenLaws (pen σ) (pos (Dx σ)) (pos (Dy σ))
   unfolding pen upAndBack
   is-pen = subst (λ (cs : List Corner). PenLaws (whole (map upward cs)) (pos (Dx σ)) (pos (Dy σ))) (sym (quarter-cons σ τ .cons)) (pen-of _ _ (pos (Dx σ)) (pos (Dy σ)) is-quarter)
+
+  pub once-of-pen : NoDup (pen σ)
+  unfolding pen upAndBack
+  once-of-pen = subst (λ (cs : List Corner). NoDup (whole (map upward cs))) (sym (quarter-cons σ τ .cons)) (ring-once _ _ is-quarter)
+
+  -- its corners are the mirror images of the quarter's, and all of them
+  pub mirrored-in-pen : (z : Pt) → (z ∈ pen σ) ↔ ((c : Corner) × (c ∈ quarter σ) × AsFar c z)
+  unfolding pen upAndBack
+  mirrored-in-pen z = subst (λ (cs : List Corner). (z ∈ whole (map upward cs)) ↔ ((c : Corner) × (c ∈ cs) × AsFar c z)) (sym (quarter-cons σ τ .cons)) (there, back)
+    where
+      cs : List Corner
+      cs = quarter-cons σ τ .first ∷ quarter-cons σ τ .others
+
+      there : z ∈ whole (map upward cs) → (c : Corner) × (c ∈ cs) × AsFar c z
+      there m =
+          let i = image _ _ (pos (Dx σ)) (pos (Dy σ)) is-quarter m in
+          let c = map-mem upward cs (i .1) in
+          (c .0, c .1, image-far (c .0) z (subst (λ (w : Pt). Image w z) (c .2) (i .2)))
+
+      back : (c : Corner) × (c ∈ cs) × AsFar c z → z ∈ whole (map upward cs)
+      back m = corner _ _ (pos (Dx σ)) (pos (Dy σ)) is-quarter (mem-map upward cs (m .1)) (far-image (m .0) z (m .2))
 
   pub few-of-pen : length (pen σ) ≤ penMax
   unfolding pen

@@ -77,16 +77,16 @@ module _ (c : Pt) (q : List Pt) (Dx Dy : ℤ) (Q : IsQuarter c q Dx Dy) where
       go z e (inr h) (inl m) = has-first (ringOf c q) left (crossed z) m
       go z e (inr h) (inr k) = absurd (both-ends Dx (z .x) (c .x) (Q .wide₁) e (ap (λ (w : Pt). w .x) h) (ap (λ (w : Pt). w .x) k))
 
-  -- the corners are the mirror images of the quarter's, and all of them
   -- the first corner is the lowest
   first-lowest : (w : List Pt) → Left (λ p r. Fits (c ∷ q) (edge p r)) c c w → c ∈ w → reach w ≡ Dy
   first-lowest [] h m = absurd (List·Memᴰ·not-nil m)
   first-lowest (p ∷ r) h m = ap (λ (z : Pt). negℤ (z .y)) (h .0) ∙ ap negℤ (Q .bottom) ∙ neg-neg Dy
 
-  image : {w : Pt} → w ∈ ringOf c q → (z : Pt) × (z ∈ c ∷ q) × Image z w
+  -- the corners are the mirror images of the quarter's, and all of them
+  pub image : {w : Pt} → w ∈ ringOf c q → (z : Pt) × (z ∈ c ∷ q) × Image z w
   image m = image-of c q (once-sub c c (onwards c q) m)
 
-  corner : {z w : Pt} → z ∈ c ∷ q → Image z w → w ∈ ringOf c q
+  pub corner : {z w : Pt} → z ∈ c ∷ q → Image z w → w ∈ ringOf c q
   corner m i = elim (once-mem c c (onwards c q) (image-in c q m i)) [ inl k ↦ k | inr k ↦ Memᴰ·cast k first-in ]
 
   -- the mirrored quarter is a pen

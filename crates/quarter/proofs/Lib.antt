@@ -3,7 +3,8 @@
 --   Chain, Invariant, Pieces, Cuts, Rounds  what holds at every corner that is not yet put out, and that each round keeps it
 --   Progress, Sizes                         every moment: counts, sizes, the end
 --   Quarters, Ranges                        the quarter is a chain; where its corners lie
---   Nearest, Rules                          the quarter is what document 01's steps put out
+--   Nearest, Rules                          the quarter is what the rules of specs/Steps put out
+--   Unique, Lines                           and they put out nothing else; what they come to lies on its lines
 --   Most, Halving, Stack, Laid              for the code: bounds of machine numbers, the search's loop, the stack, arrays of corners
 --   Cornered                                the answer, by the check of the setting
 pub mod Slope
@@ -21,6 +22,8 @@ pub mod Ranges
 pub mod Most
 pub mod Nearest
 pub mod Rules
+pub mod Unique
+pub mod Lines
 pub mod Theorems
 pub mod Halving
 pub mod Stack

@@ -1,4 +1,4 @@
--- Step 4's retained point over whole numbers: the natural quotient that `retained` computes, cut off at s, is the nearest whole number (half goes up), also
+-- Step 4's retained point as the rules of specs/Steps have it, over whole numbers: the natural quotient that `retained` computes, cut off at s, is the nearest whole number (half goes up), also
 -- where the numerator is below 0.
 use Prim.Native.Nat.{ℕ, _+_, _*_, _-_, _/_, _≤_, _<_, min}
 use mathlib.Core.Path.{_≡_, sym, ap, _∙_}
@@ -19,6 +19,7 @@ use Rattle.quarter.proofs.Most.{norm-least}
 use Rattle.quarter.specs.NearRoot.{norm}
 use Rattle.quarter.specs.Cutting.{retained}
 use Rattle.quarter.specs.Steps.{Retained}
+use Rattle.quarter.proofs.Cuts.{retained-le}
 use Rattle.quarter.proofs.Naturals.{le-pos, lt-pos, diff-pos, min-pos}
 
 -- k, the floor of (2n + m) / 2m, is the whole number nearest to n / m
@@ -69,8 +70,10 @@ module _ (a d m s : ℕ) (h : 1 ≤ m) where
           let small = below (pos a -ℤ pos d) (pos m) k (lt-pos h) (negative (pos a) (pos d) e) low in
           ap (λ (n : ℕ). pos n) (omega arith) ∙ max-zero (minZ (pos s) k) (le-trans (minZ (pos s) k) k (pos 0) (min-r (pos s) k) small)
 
-pub retained-ok : (σ : Setting) → Taken σ → (u v c x s : ℕ) → 1 ≤ u → Retained σ u v c x s (retained σ u v c x s)
-unfolding retained
+pub retained-ok :
+    (σ : Setting) → Taken σ → (u v c x s : ℕ) → 1 ≤ u →
+    Retained σ (pos x) (pos s) (record { u = pos u; v = pos v; c = pos c; l1 = pos (retained σ u v c x s); l2 = pos (s - retained σ u v c x s) })
+unfolding retained norm
 retained-ok σ τ u v c x s h =
     let a : ℕ = σ .p * σ .p * v * c in
     let d : ℕ = x * norm σ u v in
@@ -78,7 +81,10 @@ retained-ok σ τ u v c x s h =
     let hm : 1 ≤ m = one-le-mul h (norm-least τ v h) in
     record {
       k = k a d m s hm;
-      low = nearest-low (pos a -ℤ pos d) (pos m) (k a d m s hm) (low a d m s hm);
-      high = nearest-high (pos a -ℤ pos d) (pos m) (k a d m s hm) (high a d m s hm);
-      brought = brought a d m s hm;
+      nearest = record {
+        low = nearest-low (pos a -ℤ pos d) (pos m) (k a d m s hm) (low a d m s hm);
+        high = nearest-high (pos a -ℤ pos d) (pos m) (k a d m s hm) (high a d m s hm);
+      };
+      l1 = brought a d m s hm;
+      l2 = diff-pos s (retained σ u v c x s) (retained-le σ u v c x s);
     }

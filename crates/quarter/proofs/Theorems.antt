@@ -1,10 +1,12 @@
 -- The claims of specs/Theorems.antt, each under its name there.
-use Rattle.quarter.specs.Theorems.{NearRootHolds, NearRootUnique, StepsFall, QuarterPuts, AtMost33, EndsWithQuarter, NothingBelowZero, QuarterFew, QuarterBox}
+use Rattle.quarter.specs.Theorems.{NearRootHolds, NearRootUnique, StepsFall, QuarterPuts, PutsUnique, EdgesLie, AtMost33, EndsWithQuarter, NothingBelowZero, QuarterFew, QuarterBox}
 use Rattle.quarter.proofs.NearRoot.{nearRoot-ok, nearRoot-one}
 use Rattle.quarter.proofs.Progress.{falls-put, falls-on, ends-with}
 use Rattle.quarter.proofs.Sizes.{corners-at-most, moment-ready}
 use Rattle.quarter.proofs.Ranges.{quarter-few-corners, quarter-in-box}
 use Rattle.quarter.proofs.Rules.{puts-quarter}
+use Rattle.quarter.proofs.Unique.{puts-one}
+use Rattle.quarter.proofs.Lines.{comes-lie}
 
 pub near-root-holds : NearRootHolds
 near-root-holds = nearRoot-ok
@@ -17,6 +19,12 @@ steps-fall σ τ out t m = (λ r e. falls-put σ τ m e, λ r e. falls-on σ τ 
 
 pub quarter-puts : QuarterPuts
 quarter-puts = puts-quarter
+
+pub puts-unique : PutsUnique
+puts-unique σ A L edges cs ds = puts-one
+
+pub edges-lie : EdgesLie
+edges-lie σ A L edges = comes-lie
 
 pub at-most-33 : AtMost33
 at-most-33 σ τ out t m = corners-at-most σ τ m

@@ -1,6 +1,6 @@
 -- In the order of document 01; then what is proved.
 --   NearRoot, Cutting   the near root, and steps 1 to 5 as definitions that compute: the quarter
---   Steps               the same steps as rules, to hold against document 01's words
+--   Steps               the same steps as rules, to hold against document 01's words: they stand by themselves, over whole numbers, y upwards
 --   Answer              the quarter as the code's arrays hold it
 --   Moment, Held        the quarter on the way, and the code's structs in these words
 --   Theorems            what is proved

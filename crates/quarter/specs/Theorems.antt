@@ -1,7 +1,7 @@
 -- What is proved of the quarter, for every setting within the limits. Each claim is a type; proofs/Theorems.antt proves it under the same name.
 use Prim.Native.Nat.{ℕ, _≤_, _<_}
 use mathlib.Core.Path.{_≡_}
-use mathlib.Core.List.{List, [], _∷_}
+use mathlib.Core.List.{List, [], _∷_, map}
 use lib.ListN.{length}
 use Rattle.integers.specs.Count.{_∈_}
 use Rattle.limits.specs.Sizes.{quarterMax}
@@ -9,8 +9,9 @@ use Rattle.setting.specs.declared.Setting.{Setting}
 use Rattle.setting.specs.Setting.{Taken}
 use Rattle.quarter.specs.declared.Edge.{Edge}
 use Rattle.quarter.specs.NearRoot.{NearRoot, nearRoot}
-use Rattle.quarter.specs.Cutting.{Corner, State, first, step, put, on, quarter}
-use Rattle.quarter.specs.Steps.{Puts}
+use Rattle.quarter.specs.Cutting.{Corner, State, step, put, on, quarter}
+use Rattle.quarter.specs.Steps.{EdgeZ, CornerZ, startCorner, startBefore, startAfter, Puts, Comes, On, Lie}
+use Rattle.quarter.specs.Answer.{across, upwards}
 use Rattle.quarter.specs.Moment.{Moment, cornersAt, total, Ready}
 
 -- the near root's inequality holds of the number that is computed, for every direction that building a pen can ask for, and determines it
@@ -25,9 +26,21 @@ abbrev pub StepsFall : Type 0
 StepsFall = (σ : Setting) → Taken σ → (out : List Corner) (t : State) → Moment σ out t →
     ((r : State) → step σ t ≡ put r → total r < total t) × ((r : State) → step σ t ≡ on r → total r < total t)
 
--- the quarter is what document 01's steps put out
+-- "The pen is the one that document 01's steps give": the quarter's corners, y upwards, are what the steps put out from the start ..
+abbrev pub cornerZ : Corner → CornerZ
+cornerZ c = record { x = across c; y = upwards c }
+
 abbrev pub QuarterPuts : Type 0
-QuarterPuts = (σ : Setting) → Taken σ → Puts σ (first σ .x) (first σ .y) (first σ .before) (first σ .after) (quarter σ)
+QuarterPuts = (σ : Setting) → Taken σ → Puts σ (startCorner σ) (startBefore σ) (startAfter σ ∷ []) (map cornerZ (quarter σ))
+
+-- .. and the steps put out no other list, from whatever corner and edges, for whatever setting
+abbrev pub PutsUnique : Type 0
+PutsUnique = (σ : Setting) (A : CornerZ) (L : EdgeZ) (edges : List EdgeZ) (cs ds : List CornerZ) → Puts σ A L edges cs → Puts σ A L edges ds → cs ≡ ds
+
+-- "An edge has a direction (u, v), an offset c (it lies on v*x - u*y = c), and counts l1, l2": whatever the steps come to, the corner is on the line of the edge
+-- before it, and the edges after it, each l1 + l2 directions long, lie on theirs
+abbrev pub EdgesLie : Type 0
+EdgesLie = (σ : Setting) (A : CornerZ) (L : EdgeZ) (edges : List EdgeZ) → Comes σ A L edges → On A L × Lie A edges
 
 -- at every moment there are at most 33 corners, and where no edge is left those put out are the quarter
 abbrev pub AtMost33 : Type 0

@@ -1,7 +1,7 @@
 -- Document 01, "Cases": all that are marked *, pens and rows, as the definitions give them. One table, and one statement over it.
 use Prim.Native.Nat.{ℕ, suc}
 use mathlib.Core.Path.{_≡_, refl}
-use mathlib.Core.Bool.{Bool, true, false, _&&_}
+use mathlib.Core.Bool.{Bool, true, false, not, _&&_}
 use mathlib.Core.List.{List, [], _∷_, map}
 use lib.Dec.{eqb}
 use lib.ListN.{length, replicate}
@@ -13,6 +13,7 @@ use Rattle.quarter.specs.Cutting.{amount, retained, corners, quarter}
 use Rattle.plane.specs.Point.{Pt, pt, same}
 use Rattle.pen.specs.Polygon.{upward, upAndBack, onceEach, pen}
 use Rattle.plane.specs.Polygon.{chain, edges}
+use Rattle.stroke.specs.Weight.{offset}
 use Rattle.stroke.specs.Sides.{furthest, sides}
 use Rattle.stroke.specs.Black.{kept}
 use Rattle.stroke.specs.Extent.{narrowed, extent}
@@ -102,3 +103,43 @@ pub all-hold : all table ≡ true
 unfolding taken Dx Dy norm lower tried bisect nearRoot amount retained corners quarter upAndBack onceEach pen chain edges furthest sides kept inRange narrowed extent
     runsFrom runsOf coordinateFrom pathPoints rowResult samePoints sameNumbers rowsFrom all
 all-hold = refl
+
+-- ---- the others, of which the checker computes these quickly
+abbrev two : ℕ → ℕ → List Run
+two a b = record { left = a; right = a } ∷ record { left = b; right = b } ∷ []
+
+-- "w=16, (16,64) (16,16) (80,16) (80,64)"
+abbrev pub fourPoints : List ℤ
+fourPoints = pos 16 ∷ pos 64 ∷ pos 16 ∷ pos 16 ∷ pos 80 ∷ pos 16 ∷ pos 80 ∷ pos 64 ∷ []
+
+-- "row j is j..j for j from 0 to 10"; "row 1 is 1..5, row 3 is 1..1 and 5..5"
+abbrev pub others : List Case
+others =
+    rowsAre (setting 16 1 1) (line 0 0 160 160) 20 12
+    (run 0 0 ∷ run 1 1 ∷ run 2 2 ∷ run 3 3 ∷ run 4 4 ∷ run 5 5 ∷ run 6 6 ∷ run 7 7 ∷ run 8 8 ∷ run 9 9 ∷ run 10 10 ∷ clear ∷ []) ∷
+    rowsAre (setting 16 1 1) fourPoints 20 12 (clear ∷ run 1 5 ∷ two 1 5 ∷ two 1 5 ∷ two 1 5 ∷ clear ∷ clear ∷ clear ∷ clear ∷ clear ∷ clear ∷ clear ∷ []) ∷
+    []
+
+pub others-hold : all others ≡ true
+unfolding
+    taken Dx Dy norm lower tried bisect nearRoot amount retained corners quarter upAndBack onceEach pen chain edges furthest sides kept inRange narrowed extent
+    runsFrom runsOf coordinateFrom pathPoints rowResult samePoints sameNumbers rowsFrom all
+others-hold = refl
+
+-- "with one record for row 3, refusal 7"
+pub one-record : rowResult (pen (setting 16 1 1)) fourPoints 20 12 3 (replicate 2 0) .answer .refusal ≡ 7
+unfolding
+    taken Dx Dy norm lower tried bisect nearRoot amount retained corners quarter upAndBack onceEach pen chain edges furthest sides kept inRange narrowed extent
+    runsFrom runsOf coordinateFrom pathPoints rowResult
+one-record = refl
+
+-- "w=64 in direction (1,2): c is 9"
+pub nine : offset (pen (setting 64 1 1)) (pos 1) 2 ≡ pos 9
+unfolding taken Dx Dy norm lower tried bisect nearRoot amount retained corners quarter upAndBack onceEach pen furthest
+nine = refl
+
+-- "Limits: w 15 and 513 refused, 16 and 512 taken with p=q=1; .. 262,144 taken, 262,145 refused"
+pub limits-hold : (not (taken (setting 15 1 1)) && (not (taken (setting 513 1 1)) && (taken (setting 16 1 1) && taken (setting 512 1 1))))
+    && (inRange (pos 262144) && not (inRange (pos 262145))) ≡ true
+unfolding taken inRange
+limits-hold = refl

@@ -1,5 +1,4 @@
--- In the order of document 01; then what is proved, and the cases that it marks.
+-- In the order of document 01; then the cases that it marks. What is proved of the answers is in the crate demands.
 pub mod Answer
 pub mod Calls
-pub mod Theorems
 pub mod Cases

@@ -1,9 +1,9 @@
 -- The furthest value over the corners in related directions: in t times a direction it is t times as great, in the opposite direction the same, and straight down or up
--- it is the pen's height.
-use mathlib.Core.Path.{_≡_, refl}
+-- it is the pen's height; and demand 3's c is one of these.
+use mathlib.Core.Path.{_≡_, refl, _∙_}
 use mathlib.Core.List.{List}
 use native.Mathlib.Omega.{arith}
-use lib.IntN.{ℤ, pos, negℤ, _+ℤ_, _*ℤ_}
+use lib.IntN.{ℤ, pos, negℤ, _+ℤ_, _-ℤ_, _*ℤ_}
 use Rattle.integers.specs.Orders.{_≼_, _≺_}
 use Rattle.integers.specs.Count.{_∈_}
 use Rattle.integers.proofs.Ring.{ring, reify, _⊢_}
@@ -11,6 +11,7 @@ use Rattle.integers.proofs.Order.{mul-nn, sub-nn, sub-pos, mul-mono, le-antisym
 use Rattle.plane.specs.Point.{Pt}
 use Rattle.plane.specs.Polygon.{dot, PenLaws}
 use Rattle.stroke.specs.Sides.{furthest}
+use Rattle.stroke.specs.Theorems.{OffsetGreatest}
 use Rattle.stroke.proofs.Signs.{neg-neg, neg-below}
 use Rattle.stroke.proofs.Corners.{furthest-bound, corner-opposite, furthest-corner}
 
@@ -33,6 +34,10 @@ low-max = ring 4 _ (λ ρ hb h. mul-nn (sub-pos hb) (sub-nn h) ⊢ h ⊢ simp (r
 
 low-at : (b D x y : ℤ) → y ≡ negℤ D → pos 0 *ℤ x +ℤ b *ℤ y ≡ negℤ b *ℤ D
 low-at = ring 4 _ (λ ρ e. rw e (simp (reify, ρ) (omega arith)))
+
+-- what the direction (u, v) makes of a corner, written as a difference
+across : (u v x y : ℤ) → v *ℤ x -ℤ u *ℤ y ≡ v *ℤ x +ℤ negℤ u *ℤ y
+across = ring 4 _ (simp reify (omega arith))
 
 module _ (cs : List Pt) (Dx Dy : ℤ) (pen : PenLaws cs Dx Dy) where
   -- no corner lies below the lowest
@@ -66,3 +71,9 @@ module _ (cs : List Pt) (Dx Dy : ℤ) (pen : PenLaws cs Dx Dy) where
 
   pub furthest-up : (b : ℤ) → pos 0 ≺ b → furthest (pos 0) b cs ≡ b *ℤ Dy
   furthest-up b h = rw (← furthest-turn (pos 0) b (pos 0) (negℤ b) refl refl, furthest-down (negℤ b) (neg-below b h), ← neg-neg b)
+
+-- the furthest value in the direction (v, -u) is met at a corner and bounds every corner
+pub offset-greatest : OffsetGreatest
+offset-greatest cs Dx Dy pen u v =
+    let z = furthest-corner cs Dx Dy pen (pos v) (negℤ u) in
+    ((z .0, z .1, across u (pos v) (z .0 .x) (z .0 .y) ∙ z .2), λ w m. rw (across u (pos v) (w .x) (w .y)) (furthest-bound (pos v) (negℤ u) cs m))

@@ -1,4 +1,5 @@
 -- What is proved of a stroke, bottom up.
+--   Segments                           the points of a path and its segments, by their place
 --   Lists, Kept                        all and some elements of a list; the rule of kept sides
 --   Corners, Support, BothWays         a pen: its corners are a cycle, it reaches no further than they do, and it has edges that rise and edges that fall
 --   Sides, Inside, Greatest, Sweep     the sides of a segment, and theorem 1: in the sweep exactly when within every side
@@ -11,6 +12,7 @@
 --   Level                              the black pixels of a middle column of a level path are those of the band
 --   WeightTheorems, Answers            theorems 4, 5 and 6; and line weight over the runs of row answers
 --   Theorems                           all claims of specs/Theorems.antt, each under its name there
+pub mod Segments
 pub mod Lists
 pub mod Signs
 pub mod Kept

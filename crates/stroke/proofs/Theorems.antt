@@ -1,10 +1,21 @@
 -- The claims of specs/Theorems.antt, each under its name there.
-use Rattle.stroke.specs.Theorems.{KeptHas, SweepSides, BlackTest, ExtentBlack, RunsLongest, LongestUnique, RowsHold, ColumnHolds}
+use Rattle.stroke.specs.Theorems.{PointsAre, DotIs, SegmentsAre, KeptHas, SweepSides, BlackTest, ExtentBlack, RunsLongest, LongestUnique, OffsetGreatest, RowsHold, ColumnHolds}
+use Rattle.stroke.proofs.Segments as paths
 use Rattle.stroke.proofs.Kept.{kept-laws}
 use Rattle.stroke.proofs.Sweep.{sweep-iff}
 use Rattle.stroke.proofs.Black.{test-iff}
 use Rattle.stroke.proofs.Columns.{extent-iff}
+use Rattle.stroke.proofs.Furthest as furthest
 use Rattle.stroke.proofs.WeightTheorems as weights
+
+pub points-are : PointsAre
+points-are = paths.points-are
+
+pub dot-is : DotIs
+dot-is = paths.dot-is
+
+pub segments-are : SegmentsAre
+segments-are = paths.segments-are
 
 pub kept-has : KeptHas
 kept-has = kept-laws
@@ -23,6 +34,9 @@ runs-longest = weights.runs-longest
 
 pub longest-unique : LongestUnique
 longest-unique = weights.longest-unique
+
+pub offset-greatest : OffsetGreatest
+offset-greatest = furthest.offset-greatest
 
 pub rows-hold : RowsHold
 rows-hold = weights.rows-hold

@@ -133,7 +133,7 @@ module _ (columns : ℕ) (black : Pixel → Type 0) where
   -- so where the black pixels of the rows are known to be c, the runs hold c
   pub total-is : (j : ℤ) (rs : ℕ → List Run) (n c : ℕ) → ((k : ℕ) → k < n → Uncut (j +ℤ pos k)) → ((k : ℕ) → k < n → RowOf (j +ℤ pos k) (rs k)) →
       Number (λ p. InRows j n (p .row) × black p) c → total rs n ≡ c
-  total-is j rs n c uncut ans N = number-unique (λ p. InRows j n (p .row) × black p) (total-number j rs n uncut ans) N
+  total-is j rs n c uncut ans N = number-unique Pixel (λ p. InRows j n (p .row) × black p) (total rs n) c (total-number j rs n uncut ans) N
 
 -- ---- one column, over the rows of a raster
 -- runs cover the signed column i

@@ -2,23 +2,46 @@
 use mathlib.Core.Path.{_≡_}
 use mathlib.Core.Logic.{_↔_}
 use mathlib.Core.Bool.{true}
-use mathlib.Core.List.{List}
-use Prim.Native.Nat.{ℕ}
-use lib.IntN.{ℤ, pos}
+use mathlib.Core.List.{List, [], _∷_}
+use Prim.Native.Nat.{ℕ, _+_, _-_, _*_, _≤_, _<_}
+use lib.ListN.{length, getD}
+use lib.IntN.{ℤ, pos, _-ℤ_, _*ℤ_}
 use Rattle.integers.specs.Orders.{_≼_}
 use Rattle.integers.specs.Count.{_∈_}
-use Rattle.plane.specs.Point.{Pt}
+use Rattle.plane.specs.Point.{Pt, pt}
 use Rattle.plane.specs.Polygon.{Side, dot, PenLaws}
-use Rattle.stroke.specs.Sweep.{Seg, centre, Sweep}
+use Rattle.stroke.specs.Sweep.{Seg, pathPoints, segments, centre, Sweep}
 use Rattle.stroke.specs.Sides.{sides}
 use Rattle.stroke.specs.Black.{KeptLaws, Black, BlackPath}
 use Rattle.stroke.specs.Extent.{blackTest, In, extent}
 use Rattle.stroke.specs.Runs.{Run, Longest, rowRuns}
-use Rattle.stroke.specs.Weight.{WeightOfRows, WeightOfColumn}
+use Rattle.stroke.specs.Weight.{offset, WeightOfRows, WeightOfColumn}
 
 -- what is claimed holds of every pen with the laws: of its corners, its width and its height, in half pixels
 abbrev pub EveryPen : (List Pt → ℤ → ℤ → Type 0) → Type 0
 EveryPen claim = (cs : List Pt) (Dx Dy : ℤ) → PenLaws cs Dx Dy → claim cs Dx Dy
+
+-- A path by its entries, the numbers that a call is lent; they "count from 0". (No claim asks for an entry past the last; it would be 0.)
+abbrev pub entry : List ℤ → ℕ → ℤ
+entry p k = getD p k (pos 0)
+
+-- "x, y, x, y, ..."
+abbrev pub pointAt : List ℤ → ℕ → Pt
+pointAt p k = pt (entry p (2 * k)) (entry p (2 * k + 1))
+
+-- 2n entries are n points, and point k is the entries 2k and 2k + 1
+abbrev pub PointsAre : Type 0
+PointsAre = (p : List ℤ) (n : ℕ) → length p ≡ 2 * n → (length (pathPoints p) ≡ n) × ((k : ℕ) (d : Pt) → k < n → getD (pathPoints p) k d ≡ pointAt p k)
+
+-- "a path of one point is one such segment", with equal ends; and it has no other
+abbrev pub DotIs : Type 0
+DotIs = (p : List ℤ) → length p ≡ 2 → segments (pathPoints p) ≡ record { from = pointAt p 0; to = pointAt p 0 } ∷ []
+
+-- n points, two or more, are joined by exactly n - 1 segments, in order: segment k runs from point k to point k + 1
+abbrev pub SegmentsAre : Type 0
+SegmentsAre = (p : List ℤ) (n : ℕ) → length p ≡ 2 * n → 2 ≤ n →
+    (length (segments (pathPoints p)) ≡ n - 1)
+    × ((k : ℕ) (d : Seg) → k < n - 1 → getD (segments (pathPoints p)) k d ≡ record { from = pointAt p k; to = pointAt p (k + 1) })
 
 -- 1. in the sweep by existence exactly when within every side
 abbrev pub SweepSides : Type 0
@@ -38,6 +61,11 @@ RunsLongest = EveryPen λ cs Dx Dy. (path : List Pt) (columns j : ℕ) → Longe
 
 abbrev pub LongestUnique : Type 1
 LongestUnique = (black : ℕ → Type 0) (n : ℕ) (rs ss : List Run) → Longest black n rs → Longest black n ss → rs ≡ ss
+
+-- demand 3's c: "the greatest v times x minus u times y over the pen's corners". Some corner has that value, and none has a greater one
+abbrev pub OffsetGreatest : Type 0
+OffsetGreatest = EveryPen λ cs Dx Dy. (u : ℤ) (v : ℕ) →
+    ((z : Pt) × (z ∈ cs) × (pos v *ℤ z .x -ℤ u *ℤ z .y ≡ offset cs u v)) × ((z : Pt) → z ∈ cs → pos v *ℤ z .x -ℤ u *ℤ z .y ≼ offset cs u v)
 
 -- 5. and 6. line weight over pixels; the top of Weight tells why it is true
 abbrev pub RowsHold : Type 0

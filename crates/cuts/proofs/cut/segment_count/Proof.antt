@@ -1,6 +1,6 @@
 -- The number of points, and with it of segments, of the definition.
 use Rattle.stroke.specs.Sweep.{pathPoints}
-use Rattle.cuts.proofs.Segments.{points-long, segments-few, segments-some}
+use Rattle.stroke.proofs.Segments.{points-long, segments-few, segments-some}
 use mathlib.Core.Path.{sym, _∙_}
 use native.Mathlib.Omega.{arith}
 use borrow.Author.Needs.{needs}

@@ -44,7 +44,9 @@ loop-again c =
     let a = c .before .before .before .before .before .args in
     let h : l .i < length (now (a .dst)) = omega arith in
     let k : l .i < length (now (a .src)) = ltb-true _ _ (c .before .before .if1 .taken) in
-    (search needs, search needs, ap (λ (d : List ℕ). set d (l .i) (bitOr (getD d (l .i) 0) (getD (now (a .src)) (l .i) 0))) (l .inv .2) ∙ over-step _ _ _ h k ∙ ap (λ (n : ℕ). laidOver (now (a .dst)) (take n (now (a .src)))) (sym (add-one (l .i))))
+    let laid = ap (λ (d : List ℕ). set d (l .i) (bitOr (getD d (l .i) 0) (getD (now (a .src)) (l .i) 0))) (l .inv .2) in
+    let one-more = ap (λ (n : ℕ). laidOver (now (a .dst)) (take n (now (a .src)))) (sym (add-one (l .i))) in
+    (search needs, search needs, laid ∙ over-step _ _ _ h k ∙ one-more)
 
 same-length : tie.Need-same-length Inv-loop μ-loop
 same-length c = search needs

@@ -1,4 +1,4 @@
--- The claim of specs/Theorems.antt, under its name there.
+-- The bits of what a packed row leaves: those of the pixels that are black by existence; and the rest of the buffer.
 use Prim.Native.Nat.{ℕ, _+_, _*_, _/_, _%_, _-_, _^_, _<_}
 use mathlib.Core.Bool.{Bool, true, false, cond, _&&_}
 use mathlib.Core.Path.{_≡_, refl, sym, ap, _∙_}
@@ -9,16 +9,15 @@ use borrow.Author.Tests.{ltb-true, lt-ltb}
 use lib.Dec.{ltb}
 use lib.ListN.{getD, drop, List·getD-append}
 use lib.Seq.{drop-at}
-use lib.IntN.{pos}
+use lib.IntN.{ℤ, pos}
 use Rattle.integers.proofs.Tests.{clash}
-use Rattle.pen.specs.Polygon.{pen}
-use Rattle.pen.proofs.Theorems.{pen-is-pen}
 use Rattle.stroke.specs.Runs.{blackAt}
 use Rattle.stroke.proofs.Path.{black-path}
-use Rattle.stroke.specs.Sweep.{pathPoints}
-use Rattle.packed.specs.Packed.{packed, packedLength}
-use Rattle.packed.specs.Theorems.{PackedDraws}
-use Rattle.packed.proofs.Demands.{packed-call-is, row-stored}
+use Rattle.plane.specs.Point.{Pt}
+use Rattle.plane.specs.Polygon.{PenLaws}
+use Rattle.stroke.specs.Sweep.{centre, pathPoints}
+use Rattle.stroke.specs.Black.{BlackPath}
+use Rattle.packed.specs.Packed.{packed, packedLength, packedOver}
 use Rattle.packed.proofs.PackedRow.{packed-length, packed-bit}
 
 -- a bit is 1 when both of its tests are passed
@@ -38,15 +37,16 @@ black-bit f columns rest {after} e k b hk hb =
     let s = bit-set (ltb (8 * k + b) columns) (f (8 * k + b)) in
     ((λ h. let r = s .0 (sym q ∙ h) in (ltb-true (8 * k + b) columns (r .0), r .1)), λ h. q ∙ s .1 (lt-ltb (8 * k + b) columns (h .0), h .1))
 
-pub packed-draws : PackedDraws
-packed-draws t n σ h p columns rows j before answer after e z =
-    let s = row-stored (pen σ) p columns rows j before answer after (e ∙ packed-call-is h p columns rows j before) z in
-    let f : ℕ → Bool = λ x. blackAt (pen σ) (pathPoints p) (pos j) (pos x) in
-    record {
-      count = s .count;
-      bits = λ k b hk hb.
-          let i = black-bit f columns (drop (packedLength columns) before) (s .left) k b hk hb in
-          let q = black-path (pen σ) _ _ (pen-is-pen σ (h .taken)) (pathPoints p) (pos (8 * k + b)) (pos j) in
-          ((λ x. let y = i .0 x in (y .0, q .0 (y .1))), λ x. i .1 (x .0, q .1 (x .1)));
-      rest = ap (drop (packedLength columns)) (s .left) ∙ drop-at (packed f columns) (drop (packedLength columns) before) (packedLength columns) (packed-length f columns);
-    }
+-- what a packed row leaves, for every pen with the laws: its bits by existence, and the rest of the buffer
+module _ (cs : List Pt) (Dx Dy : ℤ) (laws : PenLaws cs Dx Dy) (p : List ℤ) (columns j : ℕ) (before after : List ℕ) (e : after ≡ packedOver cs p columns j before) where
+  pub over-bits : (k b : ℕ) → k < packedLength columns → b < 8 →
+      (getD after k 0 / 2 ^ (7 - b) % 2 ≡ 1) ↔ ((8 * k + b < columns) × BlackPath cs (pathPoints p) (centre (pos (8 * k + b)) (pos j)))
+  over-bits k b hk hb =
+      let i = black-bit (λ x. blackAt cs (pathPoints p) (pos j) (pos x)) columns (drop (packedLength columns) before) e k b hk hb in
+      let q = black-path cs Dx Dy laws (pathPoints p) (pos (8 * k + b)) (pos j) in
+      ((λ x. let y = i .0 x in (y .0, q .0 (y .1))), λ x. i .1 (x .0, q .1 (x .1)))
+
+  pub over-rest : drop (packedLength columns) after ≡ drop (packedLength columns) before
+  over-rest =
+      ap (drop (packedLength columns)) e
+      ∙ drop-at (packed (λ x. blackAt cs (pathPoints p) (pos j) (pos x)) columns) (drop (packedLength columns) before) (packedLength columns) (packed-length _ columns)

@@ -18,7 +18,6 @@ use Rattle.stroke.specs.Sweep.{pathPoints}
 use Rattle.row.specs.Answer.{listed, runsOffer, rowResult}
 use Rattle.row.specs.Calls.{rowCall}
 use Rattle.aperture.specs.Reachable.{Holds}
-use Rattle.row.specs.Theorems.{Answered}
 
 -- ---- the aperture's pen
 pub call-is : {t : Table} {n : ℕ} {σ : Setting} → Holds t n σ → (p : List ℤ) (columns rows j : ℕ) (l : List ℕ) → rowCall t n p columns rows j l ≡ rowResult (pen σ) p columns rows j l
@@ -39,6 +38,6 @@ row-filled cs p columns rows j l a m e z =
     record { count = g .count; left = g .left }
 
 -- the answer of a call on a table that holds the setting
-pub answered-filled : {t : Table} {n : ℕ} {σ : Setting} → Holds t n σ → {p : List ℤ} {columns rows j : ℕ} {l : List ℕ} {a : Answer} {m : List ℕ} →
-    Answered t n p columns rows j l a m → Filled (rowRuns (pen σ) (pathPoints p) columns j) l a m
-answered-filled {σ = σ} h {p} {columns} {rows} {j} {l} {a} {m} w = row-filled (pen σ) p columns rows j l a m (w .promise ∙ call-is h p columns rows j l) (w .done)
+pub call-filled : {t : Table} {n : ℕ} {σ : Setting} → Holds t n σ → (p : List ℤ) (columns rows j : ℕ) (l : List ℕ) (a : Answer) (m : List ℕ) →
+    record { answer = a; list = m } ≡ rowCall t n p columns rows j l → a .refusal ≡ 0 → Filled (rowRuns (pen σ) (pathPoints p) columns j) l a m
+call-filled {σ = σ} h p columns rows j l a m e z = row-filled (pen σ) p columns rows j l a m (e ∙ call-is h p columns rows j l) z

@@ -1,0 +1,11 @@
+-- The demands, in their order.
+--   Reports   the calls that report a row's runs, and the runs that each reports
+--   Packs     the calls that pack a row
+--   Demand1   refusals
+--   Demand2   the black pixels
+--   Demand3   line weight
+pub mod Reports
+pub mod Packs
+pub mod Demand1
+pub mod Demand2
+pub mod Demand3

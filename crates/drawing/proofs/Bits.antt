@@ -1,0 +1,174 @@
+-- Each bit of a film, by its place: the place in the file, the row there, the bit of the packed row, and the stroke that makes it black.
+use Prim.Native.Nat.{ℕ, zero, suc, _+_, _-_, _*_, _/_, _%_, _^_, _≤_, _<_}
+use native.Mathlib.Omega.{arith}
+use mathlib.Core.Path.{_≡_, refl, sym, ap, _∙_, subst}
+use mathlib.Core.Logic.{_↔_, _⊎_, inl, inr}
+use mathlib.Core.Bool.{Bool, true, false, cond, _&&_, _||_}
+use mathlib.Core.List.{List, [], _∷_, _++_}
+use borrow.Author.Tests.{ltb-true, ltb-false, lt-ltb}
+use lib.Dec.{ltb}
+use lib.ListN.{length, getD}
+use lib.Seq.{take-at, getD-append-add}
+use lib.IntN.{pos}
+use Rattle.integers.proofs.Tests.{clash}
+use Rattle.pen.specs.Polygon.{pen}
+use Rattle.pen.proofs.Theorems.{pen-is-pen}
+use Rattle.stroke.specs.Runs.{blackAt}
+use Rattle.stroke.specs.Sweep.{centre, pathPoints}
+use Rattle.stroke.specs.Black.{BlackPath}
+use Rattle.stroke.proofs.Path.{black-path}
+use Rattle.packed.specs.Packed.{packed, packedLength}
+use Rattle.packed.proofs.PackedRow.{packed-length, packed-bit, packed-small}
+use Rattle.pbm.specs.Pbm.{decimal, header, topFirst}
+use Rattle.pbm.proofs.Theorems.{decimal-reads, top-first}
+use Rattle.drawing.specs.Film.{Drawing, pathOf, rowOf, film}
+use Rattle.drawing.specs.Theorems.{anyBelow, DrawableFilm, StrokeBlack, FilmBits, FilmBit}
+use Rattle.drawing.proofs.Put.{film-long}
+use Rattle.drawing.proofs.Packed.{film-row}
+
+-- ---- bytes
+-- every number of the list is a byte, and so is what is read past its end
+abbrev Small : List ℕ → Type 0
+Small l = (n : ℕ) → getD l n 0 < 256
+
+small-append : (a b : List ℕ) → Small a → Small b → Small (a ++ b)
+small-append [] b p q n = q n
+small-append (x ∷ a) b p q zero = p 0
+small-append (x ∷ a) b p q (suc n) = small-append a b (λ m. p (suc m)) q n
+
+small-one : (c : ℕ) → c < 256 → Small (c ∷ [])
+small-one c h zero = h
+small-one c h (suc n) = omega arith
+
+small-digits : (l : List ℕ) → ((i : ℕ) → i < length l → (48 ≤ getD l i 0) × (getD l i 0 ≤ 57)) → Small l
+small-digits [] h n = omega arith
+small-digits (c ∷ l) h zero = omega (arith, h 0 (omega arith))
+small-digits (c ∷ l) h (suc n) = small-digits l (λ i k. h (suc i) (omega arith)) n
+
+small-decimal : (n : ℕ) → Small (decimal n)
+small-decimal n = small-digits (decimal n) (decimal-reads n .digits)
+
+small-letters : Small (80 ∷ 52 ∷ 10 ∷ [])
+small-letters = small-append (80 ∷ []) (52 ∷ 10 ∷ []) (small-one 80 (omega arith)) (small-append (52 ∷ []) (10 ∷ []) (small-one 52 (omega arith)) (small-one 10 (omega arith)))
+
+small-header : (columns rows : ℕ) → Small (header columns rows)
+small-header columns rows =
+    let first : List ℕ = (80 ∷ 52 ∷ 10 ∷ []) ++ decimal columns in
+    let second : List ℕ = first ++ (32 ∷ []) in
+    let p = small-append (80 ∷ 52 ∷ 10 ∷ []) (decimal columns) small-letters (small-decimal columns) in
+    let q = small-append first (32 ∷ []) p (small-one 32 (omega arith)) in
+    small-append (second ++ decimal rows) (10 ∷ []) (small-append second (decimal rows) q (small-decimal rows)) (small-one 10 (omega arith))
+
+small-rows : (n : ℕ) (row : ℕ → List ℕ) → ((j : ℕ) → j < n → Small (row j)) → Small (topFirst n row)
+unfolding topFirst
+small-rows zero row h k = omega arith
+small-rows (suc n) row h k = small-append (row n) (topFirst n row) (h n (omega arith)) (small-rows n row (λ j l. h j (omega arith))) k
+
+-- ---- some stroke
+one-of : (a b : Bool) → (a || b) ≡ true → (a ≡ true) ⊎ (b ≡ true)
+one-of true b h = inl refl
+one-of false b h = inr h
+
+first-of : (a b : Bool) → a ≡ true → (a || b) ≡ true
+first-of true b h = refl
+first-of false b h = absurd (clash h refl)
+
+second-of : (a b : Bool) → b ≡ true → (a || b) ≡ true
+second-of true b h = refl
+second-of false b h = h
+
+-- the test finds a number exactly when there is one
+found : (f : ℕ → Bool) (n : ℕ) → anyBelow f n ≡ true → (k : ℕ) × (k < n) × (f k ≡ true)
+unfolding anyBelow
+found f zero h = absurd (clash h refl)
+found f (suc n) h = go (one-of (anyBelow f n) (f n) h) (found f n)
+  where
+    go : (anyBelow f n ≡ true) ⊎ (f n ≡ true) → (anyBelow f n ≡ true → (k : ℕ) × (k < n) × (f k ≡ true)) → (k : ℕ) × (k < suc n) × (f k ≡ true)
+    go (inl e) r = let w = r e in (w .0, omega (arith, w .1), w .2)
+    go (inr e) r = (n, omega arith, e)
+
+there : (f : ℕ → Bool) (n k : ℕ) → k < n → f k ≡ true → anyBelow f n ≡ true
+unfolding anyBelow
+there f zero k h e = absurd (omega arith)
+there f (suc n) k h e = go (ltb k n) refl (there f n k)
+  where
+    go : (t : Bool) → ltb k n ≡ t → (k < n → f k ≡ true → anyBelow f n ≡ true) → (anyBelow f n || f n) ≡ true
+    go true q r = first-of (anyBelow f n) (f n) (r (ltb-true k n q) e)
+    go false q r = let l : k ≡ n = omega (arith, ltb-false k n q) in second-of (anyBelow f n) (f n) (subst (λ (i : ℕ). f i ≡ true) l e)
+
+-- a bit is 1 when both of its tests are passed
+bit-set : (t u : Bool) → (_≡_ {A = ℕ} (cond (t && u) 1 0) 1) ↔ ((t ≡ true) × (u ≡ true))
+bit-set true true = ((λ _. (refl, refl)), λ _. refl)
+bit-set true false = ((λ e. absurd (omega (arith, e))), λ h. absurd (clash (h .1) refl))
+bit-set false u = ((λ e. absurd (omega (arith, e))), λ h. absurd (clash (h .0) refl))
+
+-- ---- a drawing whose strokes all pass
+module _ (d : Drawing) (columns rows : ℕ) (s : DrawableFilm d columns rows) where
+  -- the row's test: some stroke blackens the column
+  abbrev black : ℕ → ℕ → Bool
+  black j x = anyBelow (λ k. blackAt (pen (s .setting k)) (pathPoints (pathOf (d .starts) (d .entries) k)) (pos j) (pos x)) (length (d .apertures))
+
+  row-is : (j : ℕ) → j < rows → rowOf d columns rows (packedLength columns) j ≡ packed (black j) columns
+  row-is j h = film-row d columns rows j (record { setting = s .setting; holds = s .holds; passes = λ k l. s .passes k j l h })
+
+  stroke-black : (i j : ℕ) → (black j i ≡ true) ↔ StrokeBlack d (s .setting) i j
+  stroke-black i j = (
+    (λ e. let w = found _ (length (d .apertures)) e in (w .0, w .1, by (w .0) (w .1) .0 (w .2))),
+    (λ w. there _ (length (d .apertures)) (w .0) (w .1) (by (w .0) (w .1) .1 (w .2))),
+  )
+    where
+      by : (k : ℕ) → k < length (d .apertures) →
+          (blackAt (pen (s .setting k)) (pathPoints (pathOf (d .starts) (d .entries) k)) (pos j) (pos i) ≡ true)
+          ↔ BlackPath (pen (s .setting k)) (pathPoints (pathOf (d .starts) (d .entries) k)) (centre (pos i) (pos j))
+      by k l = black-path (pen (s .setting k)) _ _ (pen-is-pen (s .setting k) (s .holds k l .taken)) (pathPoints (pathOf (d .starts) (d .entries) k)) (pos i) (pos j)
+
+  -- the row's bytes stand where TopFirst says, behind the header
+  row-long : (j : ℕ) → j < rows → length (rowOf d columns rows (packedLength columns) j) ≡ packedLength columns
+  row-long j h = ap length (row-is j h) ∙ packed-length (black j) columns
+
+  film-byte : (j k : ℕ) → j < rows → k < packedLength columns →
+      getD (film d columns rows) (length (header columns rows) + (rows - 1 - j) * packedLength columns + k) 0 ≡ getD (packed (black j) columns) k 0
+  film-byte j k h l =
+      let w = packedLength columns in
+      let p : length (header columns rows) + (rows - 1 - j) * w + k ≡ length (header columns rows) + ((rows - 1 - j) * w + k) = omega arith in
+      rw p (getD-append-add (header columns rows) (topFirst rows (rowOf d columns rows w)) ((rows - 1 - j) * w + k) 0)
+      ∙ top-first rows w (rowOf d columns rows w) row-long .byte j k h l
+      ∙ ap (λ (b : List ℕ). getD b k 0) (row-is j h)
+
+  film-small : (n : ℕ) → getD (film d columns rows) n 0 < 256
+  film-small = small-append (header columns rows) (topFirst rows (rowOf d columns rows (packedLength columns))) (small-header columns rows)
+      (small-rows rows (rowOf d columns rows (packedLength columns)) (λ j h n. rw (row-is j h) (packed-small (black j) columns n)))
+
+  -- the bit of column i of row j
+  bit-is : (i j : ℕ) → i < 8 * packedLength columns → j < rows →
+      getD (film d columns rows) (length (header columns rows) + (rows - 1 - j) * packedLength columns + i / 8) 0 / 2 ^ (7 - i % 8) % 2
+      ≡ cond (ltb i columns && black j i) 1 0
+  bit-is i j h l =
+      let e : 8 * (i / 8) + i % 8 ≡ i = omega arith in
+      ap (λ (b : ℕ). b / 2 ^ (7 - i % 8) % 2) (film-byte j (i / 8) l (omega arith))
+      ∙ packed-bit (black j) columns (i / 8) (i % 8) (omega arith)
+      ∙ ap (λ (x : ℕ). cond (ltb x columns && black j x) 1 0) e
+
+  bit-black : (i j : ℕ) → i < 8 * packedLength columns → j < rows →
+      (getD (film d columns rows) (length (header columns rows) + (rows - 1 - j) * packedLength columns + i / 8) 0 / 2 ^ (7 - i % 8) % 2 ≡ 1)
+      ↔ ((i < columns) × StrokeBlack d (s .setting) i j)
+  bit-black i j h l =
+      let e = bit-is i j h l in
+      let q = stroke-black i j in (
+        (λ x. let y = bit-set (ltb i columns) (black j i) .0 (sym e ∙ x) in (ltb-true i columns (y .0), q .0 (y .1))),
+        λ x. e ∙ bit-set (ltb i columns) (black j i) .1 (lt-ltb i columns (x .0), q .1 (x .1)),
+      )
+
+  film-bits : FilmBits d columns rows (packedLength columns) (s .setting) (film d columns rows)
+  film-bits = record {
+    size = film-long d columns rows;
+    small = λ n h. film-small n;
+    head = take-at (header columns rows) (topFirst rows (rowOf d columns rows (packedLength columns))) (length (header columns rows)) refl;
+    bit = bit-black;
+  }
+
+-- the least number of bytes that hold the columns is the definition's
+pub film-bit : FilmBit
+film-bit d columns rows width h k s =
+    let e : packedLength columns ≡ width = omega arith in
+    subst (λ (w : ℕ). FilmBits d columns rows w (s .setting) (film d columns rows)) e (film-bits d columns rows s)

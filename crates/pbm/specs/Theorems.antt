@@ -1,0 +1,44 @@
+-- What a raw PBM file is, by places and values. The claims are types; proofs/Theorems.antt proves each under its name.
+use Prim.Native.Nat.{ℕ, _+_, _-_, _*_, _^_, _≤_, _<_}
+use mathlib.Core.Path.{_≡_}
+use mathlib.Core.List.{List, [], _∷_}
+use lib.ListN.{length, getD, take}
+use lib.Seq.{slice}
+use Rattle.pbm.specs.Pbm.{decimal, header, topFirst}
+
+-- what a list of digits reads as: each counts its value, its ASCII code less 48, times ten for each digit behind it
+abbrev pub readsAs : List ℕ → ℕ
+readsAs [] = 0
+readsAs (c ∷ l) = (c - 48) * 10 ^ length l + readsAs l
+
+-- "decimal without leading zeros": some digits, of the ASCII codes 48 to 57, that read as n; a 0 stands first only where it stands alone
+pub record Reads (l : List ℕ) (n : ℕ) : Type 0 where
+  pub some : 1 ≤ length l
+  pub digits : (i : ℕ) → i < length l → (48 ≤ getD l i 0) × (getD l i 0 ≤ 57)
+  pub value : readsAs l ≡ n
+  pub no-leading-zero : getD l 0 0 ≡ 48 → length l ≡ 1
+
+abbrev pub DecimalReads : Type 0
+DecimalReads = (n : ℕ) → Reads (decimal n) n
+
+-- "the characters P4, newline, 5, space, 3, newline"; "Sizes are decimal without leading zeros, columns first": the columns' digits are `wide`, the rows' `high`
+pub record HeaderOf (columns rows : ℕ) (l : List ℕ) : Type 0 where
+  pub wide : ℕ
+  pub high : ℕ
+  pub size : length l ≡ 3 + wide + 1 + high + 1
+  pub letters : take 3 l ≡ 80 ∷ 52 ∷ 10 ∷ []
+  pub first : Reads (slice 3 (3 + wide) l) columns
+  pub space : getD l (3 + wide) 0 ≡ 32
+  pub second : Reads (slice (3 + wide + 1) (3 + wide + 1 + high) l) rows
+  pub newline : getD l (3 + wide + 1 + high) 0 ≡ 10
+
+abbrev pub HeaderReads : Type 0
+HeaderReads = (columns rows : ℕ) → HeaderOf columns rows (header columns rows)
+
+-- "The top row comes first": where each row has `width` bytes, byte k of row j stands behind those of the rows above it, which are rows - 1 - j
+pub record Downwards (rows width : ℕ) (row : ℕ → List ℕ) (l : List ℕ) : Type 0 where
+  pub size : length l ≡ rows * width
+  pub byte : (j k : ℕ) → j < rows → k < width → getD l ((rows - 1 - j) * width + k) 0 ≡ getD (row j) k 0
+
+abbrev pub TopFirst : Type 0
+TopFirst = (rows width : ℕ) (row : ℕ → List ℕ) → ((j : ℕ) → j < rows → length (row j) ≡ width) → Downwards rows width row (topFirst rows row)
