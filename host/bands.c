@@ -577,7 +577,7 @@ static enum status run_child(struct film *film, const struct band *band, uint8_t
                              pid_t parent)
 {
 #ifdef __linux__
-    if (prctl(PR_SET_PDEATHSIG, SIGKILL) != 0)
+    if (prctl(PR_SET_PDEATHSIG, (unsigned long)SIGKILL) != 0)
         return system_failed("tying the upper band to its parent");
 #endif
     if (getppid() != parent)
@@ -635,7 +635,7 @@ static enum status draw_in_two(struct film *film, struct shared *shared)
     if (child < 0)
         return system_failed("a second process");
     if (child == 0)
-        _exit(run_child(film, &upper, shared->picture, parent));
+        _exit((int)run_child(film, &upper, shared->picture, parent));
     struct progress progress = begin("drawing in two bands", shared->works, 2);
     enum status status = draw(film, &lower, shared->picture, &progress);
     if (status == DONE)

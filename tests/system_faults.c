@@ -8,6 +8,7 @@
 #include "faults.h"
 
 #include <errno.h>
+#include <stdarg.h>
 #include <stdio.h>
 #include <sys/stat.h>
 #include <sys/types.h>
@@ -26,6 +27,8 @@ int __real_fsync(int);
 int __wrap_fsync(int);
 int __real_mkstemp(char *);
 int __wrap_mkstemp(char *);
+int __real_prctl(int, ...);
+int __wrap_prctl(int, ...);
 int __real_rename(const char *, const char *);
 int __wrap_rename(const char *, const char *);
 int __real_unlink(const char *);
@@ -75,6 +78,16 @@ int __wrap_fsync(int file)
 int __wrap_mkstemp(char *path)
 {
     return fails("mkstemp") ? -1 : __real_mkstemp(path);
+}
+
+/* As on a system that does not end a child with its parent. */
+int __wrap_prctl(int option, ...)
+{
+    va_list more;
+    va_start(more, option);
+    unsigned long argument = va_arg(more, unsigned long);
+    va_end(more);
+    return fault("no-death-signal") ? 0 : __real_prctl(option, argument);
 }
 
 int __wrap_rename(const char *from, const char *to)
