@@ -2,7 +2,8 @@
 //! row answer, byte for byte. What is lent stands between guard bytes.
 
 use crate::calls::{some_call, Call};
-use crate::row::{packed_row, row_answer, Answer};
+use crate::kinds::{Kinds, Outcome};
+use crate::row::Answer;
 use crate::stream::Sequence;
 
 /// The form of both functions: w, p, q, path and its length, columns, rows,
@@ -72,15 +73,15 @@ impl Guarded {
     }
 }
 
-/// Makes one call and compares all of it. Gives back the answer and whether
-/// there were black pixels, or what differs.
+/// Makes one call and compares all of it. Gives back the answer and what was
+/// lent, or what differs.
 fn one(
-    row: Function,
-    packed: Function,
+    function: Function,
     call: &Call,
+    own_answer: impl Fn(&Call, &mut [u8]) -> Answer,
     sequence: &mut Sequence,
     guards: Guards,
-) -> Result<(Answer, bool), String> {
+) -> Result<(Answer, Vec<u8>), String> {
     let mut path = Guarded::new(sequence, call.path.len(), guards);
     path.lent().copy_from_slice(&call.path);
     let mut room = Guarded::new(sequence, call.length, guards);
@@ -88,16 +89,7 @@ fn one(
     let mut expected = room.bytes.clone();
 
     let lent = room.before..room.before + room.length;
-    let own_room = &mut expected[lent.clone()];
-    let (function, own) = if call.packed {
-        (packed, packed_row(&call.request(), own_room))
-    } else {
-        (row, row_answer(&call.request(), own_room))
-    };
-    let black = match call.packed {
-        false => own.count > 0,
-        true => own_room[..own.count].iter().any(|&byte| byte != 0),
-    };
+    let own = own_answer(call, &mut expected[lent.clone()]);
     // Sound as far as the function keeps to what it is lent: both slices are
     // live, as long as is said, and apart from each other.
     let foreign = unsafe {
@@ -138,7 +130,7 @@ fn one(
             &room.bytes[lent]
         ));
     }
-    Ok((own, black))
+    Ok((own, room.lent().to_vec()))
 }
 
 /// Makes many calls. The line for a full agreement, or the first difference
@@ -152,21 +144,34 @@ pub fn test(
 ) -> Result<String, String> {
     let mut sequence = Sequence::new(seed);
     let mut refusals = [0u64; 8];
-    let (mut rows, mut with_black) = (0, 0);
+    let mut kinds = Kinds::default();
+    let (mut rows, mut with_black, mut large, mut fast) = (0, 0, 0, 0);
     for i in 0..count {
         let call = some_call(&mut sequence);
-        let (answer, black) = one(row, packed, &call, &mut sequence, guards)
+        let function = if call.packed { packed } else { row };
+        let literally = call.literally(&mut sequence);
+        let own = if literally { Call::literal } else { Call::fast };
+        let (answer, lent) = one(function, &call, own, &mut sequence, guards)
             .map_err(|difference| format!("call {i} of seed {seed}: {call}\n{difference}"))?;
+        let outcome = Outcome {
+            call: &call,
+            answer,
+            lent: &lent,
+        };
+        kinds.count(&outcome);
         refusals[answer.refusal as usize] += 1;
         rows += u64::from(!call.packed);
-        with_black += u64::from(black);
+        with_black += u64::from(outcome.black());
+        large += u64::from(call.is_large());
+        fast += u64::from(!literally);
     }
     let counts: Vec<String> = [0, 1, 2, 3, 4, 5, 7]
         .iter()
         .map(|&refusal| format!("{refusal}: {}", refusals[refusal]))
         .collect();
     Ok(format!(
-        "boundary: {rows} rows and {} packed rows, {with_black} with black pixels; refusal {}: all equal",
+        "boundary: {rows} rows and {} packed rows, {with_black} with black pixels; refusal {}; {kinds}; \
+         {large} large ones, {fast} of them compared with the fast way: all equal",
         count - rows,
         counts.join(", ")
     ))
@@ -175,6 +180,7 @@ pub fn test(
 #[cfg(test)]
 mod tests {
     use super::*;
+    use crate::fast::Drawer;
     use crate::pen;
     use crate::row::{check_all_but_setting, done, refused, Request};
     use crate::setting::Setting;
@@ -236,7 +242,11 @@ mod tests {
         done(runs.len())
     }
 
+    /// Only of small calls: each column is decided by itself.
     fn wrong_runs(fault: u8, request: &Request, list: &mut [u8]) -> Option<Answer> {
+        if request.columns > 64 || request.path.len() > 8 * 100 {
+            return None;
+        }
         let rule: fn(Point) -> bool = match fault {
             KEEPS_LEFT_SIDES => |n| n.0 < 0 || (n.0 == 0 && n.1 < 0),
             KEEPS_FLAT_TOPS => |n| n.0 > 0 || (n.0 == 0 && n.1 > 0),
@@ -282,9 +292,10 @@ mod tests {
             return in_one_number(refused(7, 0));
         }
         let before = list.to_vec();
+        let mut drawer = Drawer::default();
         let mut answer = match PACKED {
-            false => row_answer(&request, list),
-            true => packed_row(&request, list),
+            false => drawer.row_answer(&request, list),
+            true => drawer.packed_row(&request, list),
         };
         let done = answer.refusal == 0;
         if done && !PACKED {
@@ -323,7 +334,7 @@ mod tests {
             }
             CHECKS_THE_ROW_LAST if answer.refusal == 5 => {
                 request.row = 0;
-                let other = row_answer(&request, &mut []);
+                let other = drawer.row_answer(&request, &mut []);
                 if other.refusal == 3 {
                     answer = other;
                 }

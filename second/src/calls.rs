@@ -1,12 +1,18 @@
 //! Row calls to try over the C boundary: good ones with ties forced, near and
 //! far, and ones with one fault or several, each just beyond a limit or far
-//! beyond it. Rasters and paths are mostly small, so that a call is cheap.
+//! beyond it. Rasters and paths are mostly small, so that a call is cheap; some
+//! are as large as they may be.
 
-use crate::row::Request;
+use crate::fast::Drawer;
+use crate::large::{self, coordinates, Drawing};
+use crate::row::{packed_row, path_bytes, row_answer, Answer, Request};
 use crate::segments::{between, some_setting, some_step, some_way, LIMIT};
 use crate::setting::Setting;
 use crate::stream::Sequence;
 use std::fmt;
+
+/// Of so many calls one has a large drawing.
+const LARGE: u64 = 15;
 
 /// One call of one of the two functions.
 pub struct Call {
@@ -31,6 +37,44 @@ impl Call {
             rows: self.rows,
             row: self.row,
         }
+    }
+
+    /// The answer in the literal way.
+    pub fn literal(&self, lent: &mut [u8]) -> Answer {
+        match self.packed {
+            true => packed_row(&self.request(), lent),
+            false => row_answer(&self.request(), lent),
+        }
+    }
+
+    /// The answer in the fast way.
+    pub fn fast(&self, lent: &mut [u8]) -> Answer {
+        let mut drawer = Drawer::default();
+        match self.packed {
+            true => drawer.packed_row(&self.request(), lent),
+            false => drawer.row_answer(&self.request(), lent),
+        }
+    }
+
+    /// How often the literal way asks a segment about a column; not at all where
+    /// it refuses the film.
+    fn questions(&self) -> u64 {
+        match self.columns {
+            columns @ ..=16_384 => columns * self.path.len() as u64 / 8,
+            _ => 0,
+        }
+    }
+
+    pub fn is_large(&self) -> bool {
+        self.questions() > 40_000
+    }
+
+    /// Whether the literal way is to decide: small calls always, large ones the
+    /// more rarely the larger they are, so that each costs 10,000 questions in the
+    /// mean. The largest would take minutes under valgrind.
+    pub fn literally(&self, sequence: &mut Sequence) -> bool {
+        let questions = self.questions();
+        !self.is_large() || (questions < 2_000_000 && sequence.below(questions) < 10_000)
     }
 }
 
@@ -176,8 +220,7 @@ fn good_path(sequence: &mut Sequence, setting: &Setting, columns: u64, row: u64)
             (y + up).clamp(-LIMIT, LIMIT),
         ));
     }
-    let coordinates = points.iter().flat_map(|&(x, y)| [x as i32, y as i32]);
-    coordinates.collect()
+    coordinates(&points)
 }
 
 /// Up and down across the row, the legs beside each other: overlapping, touching
@@ -235,8 +278,14 @@ fn some_columns(sequence: &mut Sequence) -> u64 {
     }
 }
 
-/// How many bytes are lent.
-fn some_length(sequence: &mut Sequence, packed: bool, columns: u64, short: bool) -> usize {
+/// How many bytes are lent; `runs` is the number of runs where it is known.
+fn some_length(
+    sequence: &mut Sequence,
+    packed: bool,
+    columns: u64,
+    runs: Option<u64>,
+    short: bool,
+) -> usize {
     let columns = columns.min(16_384);
     if packed {
         let needed = columns.div_ceil(8);
@@ -246,10 +295,13 @@ fn some_length(sequence: &mut Sequence, packed: bool, columns: u64, short: bool)
             false => (needed + sequence.below(10)) as usize,
         }
     } else {
-        let room = match short {
-            true => sequence.below(2),
-            false if sequence.below(3) == 0 => columns.div_ceil(2),
-            false => 1 + sequence.below(5),
+        let room = match (short, runs) {
+            (true, Some(runs)) if sequence.below(3) > 0 => runs.saturating_sub(1),
+            (true, _) => sequence.below(2),
+            (false, Some(runs)) if sequence.below(2) == 0 => runs,
+            (false, Some(runs)) => runs + sequence.below(10),
+            (false, None) if sequence.below(3) == 0 => columns.div_ceil(2),
+            (false, None) => 1 + sequence.below(5),
         };
         let left_over = match sequence.below(4) {
             0 => sequence.below(4),
@@ -259,19 +311,10 @@ fn some_length(sequence: &mut Sequence, packed: bool, columns: u64, short: bool)
     }
 }
 
-pub fn some_call(sequence: &mut Sequence) -> Call {
-    let packed = sequence.below(2) == 0;
+fn small_drawing(sequence: &mut Sequence, row: u64) -> Drawing {
     let mut setting = some_setting(sequence);
     let mut columns = some_columns(sequence);
-    let mut rows = match sequence.below(4) {
-        0 => within(sequence, 16_384),
-        _ => within(sequence, 40),
-    };
-    let mut row = match sequence.below(6) {
-        0 => rows - 1,
-        _ => sequence.below(rows),
-    };
-    let mut coordinates = match sequence.below(4) {
+    let coordinates = match sequence.below(4) {
         0 => {
             while setting.dx() > 6 {
                 setting = some_setting(sequence);
@@ -283,21 +326,61 @@ pub fn some_call(sequence: &mut Sequence) -> Call {
         }
         _ => good_path(sequence, &setting, columns, row),
     };
+    Drawing {
+        setting,
+        columns,
+        coordinates,
+    }
+}
+
+fn runs_of(drawing: &Drawing, row: u64) -> u64 {
+    let mut list = [0; 4 * 8_192];
+    drawing.call(false, row).fast(&mut list).count as u64
+}
+
+pub fn some_call(sequence: &mut Sequence) -> Call {
+    let packed = sequence.below(2) == 0;
+    let mut rows = match sequence.below(4) {
+        0 => within(sequence, 16_384),
+        _ => within(sequence, 40),
+    };
+    let mut row = match sequence.below(6) {
+        0 => rows - 1,
+        _ => sequence.below(rows),
+    };
+    let large = sequence.below(LARGE) == 0;
+    let drawing = match large {
+        true => large::some_drawing(sequence, row),
+        false => small_drawing(sequence, row),
+    };
+    let runs = large.then(|| runs_of(&drawing, row));
+    let Drawing {
+        mut setting,
+        mut columns,
+        mut coordinates,
+    } = drawing;
 
     let mut faults = Vec::new();
     if sequence.below(10) < 4 {
         for _ in 0..=sequence.below(3) {
-            faults.push([1, 2, 4, 5, 3, 7, 7, 7][sequence.below(8) as usize]);
+            // What is wrong with a large call is mostly what its size makes possible.
+            faults.push(match large && sequence.below(4) > 0 {
+                true => [3, 7][sequence.below(2) as usize],
+                false => [1, 2, 4, 5, 3, 7, 7, 7][sequence.below(8) as usize],
+            });
         }
     }
     let has = |fault: u8| faults.contains(&fault);
     if has(3) {
         for _ in 0..=sequence.below(2) {
-            let index = sequence.below(coordinates.len() as u64) as usize;
+            let index = match sequence.below(4) {
+                0 => coordinates.len() - 1,
+                _ => sequence.below(coordinates.len() as u64) as usize,
+            };
             coordinates[index] = bad_coordinate(sequence);
         }
     }
-    let mut path = crate::row::path_bytes(&coordinates);
+    let mut path = path_bytes(&coordinates);
     if has(2) {
         spoil_length(sequence, &mut path);
     }
@@ -323,7 +406,7 @@ pub fn some_call(sequence: &mut Sequence) -> Call {
             _ => rows = size,
         }
     }
-    let length = some_length(sequence, packed, columns, has(7));
+    let length = some_length(sequence, packed, columns, runs, has(7));
     Call {
         packed,
         setting,
@@ -339,32 +422,35 @@ pub fn some_call(sequence: &mut Sequence) -> Call {
 #[cfg(test)]
 mod tests {
     use super::*;
-    use crate::row::{packed_row, row_answer};
+    use crate::kinds::{Kinds, Outcome};
 
     /// Every refusal comes often, alone and before others, and so do rows with
-    /// black pixels, long paths, wide rasters and limits that are taken.
+    /// black pixels, long paths, wide rasters, limits that are taken, and what only
+    /// large calls reach.
     #[test]
     fn kinds() {
         let mut sequence = Sequence::new(1);
         let mut refusals = [0; 8];
+        let mut kinds = Kinds::default();
         let (mut black, mut empty, mut several, mut null) = (0, 0, 0, 0);
         let (mut long, mut wide, mut far, mut exact) = (0, 0, 0, 0);
         for _ in 0..20_000 {
             let call = some_call(&mut sequence);
             let mut lent = vec![0; call.length];
-            let answer = match call.packed {
-                true => packed_row(&call.request(), &mut lent),
-                false => row_answer(&call.request(), &mut lent),
+            let answer = call.fast(&mut lent);
+            let outcome = Outcome {
+                call: &call,
+                answer,
+                lent: &lent,
             };
+            kinds.count(&outcome);
             refusals[answer.refusal as usize] += 1;
             null += usize::from(call.null && (call.length == 0 || call.path.is_empty()));
             if answer.refusal != 0 {
                 continue;
             }
-            let blackened =
-                lent.iter().any(|&byte| byte != 0) || (!call.packed && answer.count > 0);
-            black += usize::from(blackened);
-            empty += usize::from(!blackened);
+            black += usize::from(outcome.black());
+            empty += usize::from(!outcome.black());
             several += usize::from(!call.packed && answer.count > 1);
             long += usize::from(call.path.len() == 4 * 8_192);
             wide += usize::from(call.columns == 16_384);
@@ -384,5 +470,6 @@ mod tests {
             "{several} {null} {exact}"
         );
         assert!(long > 0 && wide > 0 && far > 100, "{long} {wide} {far}");
+        assert!(kinds.rarest() >= 10, "{kinds}");
     }
 }

@@ -237,6 +237,7 @@ mod tests {
     use super::*;
     use crate::calls::{some_call, Call};
     use crate::extent;
+    use crate::large::{self, Drawing};
     use crate::pbm::{self, Stroke};
     use crate::segments::random_segments;
     use crate::stream::Sequence;
@@ -263,24 +264,66 @@ mod tests {
     #[test]
     fn answers_are_the_literal_ones() {
         let mut sequence = Sequence::new(12);
-        let mut drawer = Drawer::default();
         for _ in 0..5_000 {
             let call: Call = some_call(&mut sequence);
-            let request = call.request();
+            if !call.literally(&mut sequence) {
+                continue;
+            }
             let (mut own, mut literal) = (vec![0xEE; call.length], vec![0xEE; call.length]);
-            let (fast_answer, answer) = if call.packed {
-                (
-                    drawer.packed_row(&request, &mut own),
-                    row::packed_row(&request, &mut literal),
-                )
-            } else {
-                (
-                    drawer.row_answer(&request, &mut own),
-                    row::row_answer(&request, &mut literal),
-                )
-            };
+            let (fast_answer, answer) = (call.fast(&mut own), call.literal(&mut literal));
             assert_eq!((fast_answer, own), (answer, literal), "{call}");
         }
+    }
+
+    /// The literal packed row of a few columns from this one on, which starts a
+    /// byte: the first columns of the drawing moved there. None where that is
+    /// outside the limits.
+    fn literal_piece(drawing: &Drawing, row: u64, column: u64) -> Option<Vec<u8>> {
+        let left = [16 * column as i32, 0].into_iter().cycle();
+        let piece = Drawing {
+            columns: (drawing.columns - column).min(16),
+            coordinates: drawing
+                .coordinates
+                .iter()
+                .zip(left)
+                .map(|(c, left)| c - left)
+                .collect(),
+            ..*drawing
+        };
+        let mut bytes = vec![0; 2];
+        let answer = piece.call(true, row).literal(&mut bytes);
+        bytes.truncate(answer.count);
+        (answer.refusal == 0).then_some(bytes)
+    }
+
+    /// Rows of large drawings, at ends of runs and anywhere.
+    #[test]
+    fn pieces_of_large_rows_are_the_literal_ones() {
+        let mut sequence = Sequence::new(14);
+        let (mut pieces, mut mixed) = (0, 0);
+        for _ in 0..1_000 {
+            let row = sequence.below(16_000);
+            let drawing = large::some_drawing(&mut sequence, row);
+            let mut bytes = vec![0xEE; drawing.columns.div_ceil(8) as usize];
+            let answer = drawing.call(true, row).fast(&mut bytes);
+            assert_eq!(answer, row::done(bytes.len()));
+            let ends: Vec<usize> = (0..bytes.len())
+                .filter(|&i| ![0, 0xFF].contains(&bytes[i]))
+                .collect();
+            for anywhere in [false, true] {
+                let at = match ends.len() as u64 {
+                    n if n > 0 && !anywhere => ends[sequence.below(n) as usize],
+                    _ => sequence.below(bytes.len() as u64) as usize,
+                };
+                if let Some(piece) = literal_piece(&drawing, row, 8 * at as u64) {
+                    let own = &bytes[at..at + piece.len()];
+                    assert_eq!(own, piece, "row {row}, byte {at} of {drawing:?}");
+                    pieces += 1;
+                    mixed += usize::from(ends.contains(&at));
+                }
+            }
+        }
+        assert!(pieces > 1_800 && mixed > 700, "{pieces} {mixed}");
     }
 
     #[test]

@@ -6,6 +6,8 @@ pub mod boundary;
 pub mod calls;
 pub mod extent;
 pub mod fast;
+pub mod kinds;
+pub mod large;
 pub mod paper;
 pub mod paper_rows;
 pub mod pbm;
