@@ -5,13 +5,17 @@
  * compares them with the film drawn in one process: byte for byte the same. Then
  * it writes the film as a raw PBM file. "-" is standard input, or output.
  *
- * FILM is a text file. The first line is `film COLUMNS ROWS`; each further one is a
- * stroke, `stroke W P Q X Y X Y ...`, in the numbers of zimarolfo.h. What follows a
- * # is a comment; empty lines are skipped. A pixel is black where any stroke makes
- * it so.
+ * FILM is a text file in ASCII or UTF-8. The first line is `film COLUMNS ROWS`; each
+ * further one is a stroke, `stroke W P Q X Y X Y ...`, in the numbers of zimarolfo.h.
+ * What follows a # is a comment; empty lines are skipped. A pixel is black where any
+ * stroke makes it so. A stroke that leaves no pixel on the film is warned of.
  *
- * Ends with 0: done; 1: the bands differ from the film in one; 2: bad usage or a bad
- * film file; 3: the system failed.
+ * OUTPUT must not be FILM. It is replaced at once when the film is whole, and else
+ * stays as it was; links to it stay links, and its permissions stay. What is no
+ * regular file, such as a pipe, is written to directly.
+ *
+ * Ends with 0: done; 1: the bands differ from the film in one, or the drawer answers
+ * what it cannot; 2: bad usage or a bad film file; 3: the system failed.
  */
 #define _POSIX_C_SOURCE 200809L
 #define _DEFAULT_SOURCE /* MAP_ANONYMOUS */
@@ -20,11 +24,17 @@
 
 #include <errno.h>
 #include <inttypes.h>
+#include <limits.h>
+#include <signal.h>
 #include <stdbool.h>
 #include <stdio.h>
 #include <stdlib.h>
 #include <string.h>
+#ifdef __linux__
+#include <sys/prctl.h>
+#endif
 #include <sys/mman.h>
+#include <sys/stat.h>
 #include <sys/wait.h>
 #include <time.h>
 #include <unistd.h>
@@ -38,6 +48,7 @@ struct stroke {
     uint8_t *path;
     size_t path_len;
     unsigned long line;
+    bool leaves_pixels;
     /* The rows that the pen may reach, within the film: from first to below end. */
     uint64_t first_row, end_row;
 };
@@ -52,18 +63,49 @@ struct film {
 
 /* ------------------------------------------------------------------ complaints */
 
+/* Names and words of others: a terminal would obey their control characters. */
+static void put_printable(const char *text, size_t most)
+{
+    for (size_t i = 0; i < most && text[i] != '\0'; i++) {
+        unsigned char byte = (unsigned char)text[i];
+        fprintf(stderr, byte >= 0x20 && byte <= 0x7E ? "%c" : "\\x%02X", byte);
+    }
+}
+
+static void begin_complaint(const char *name)
+{
+    fputs("bands: ", stderr);
+    put_printable(name, SIZE_MAX);
+}
+
+static void begin_line_complaint(const struct film *film, unsigned long line)
+{
+    begin_complaint(film->name);
+    fprintf(stderr, ":%lu: ", line);
+}
+
+/* What failed, and why: a number as errno has it. */
+static enum status failed_with(const char *what, int error, const char *then)
+{
+    begin_complaint(what);
+    fprintf(stderr, ": %s%s\n", strerror(error), then);
+    return SYSTEM_FAILED;
+}
+
 static enum status system_failed(const char *what)
 {
-    fprintf(stderr, "bands: %s: %s\n", what, strerror(errno));
-    return SYSTEM_FAILED;
+    return failed_with(what, errno, "");
 }
 
 static enum status bad_line(const struct film *film, unsigned long line, const char *what,
                             const char *word)
 {
-    fprintf(stderr, "bands: %s:%lu: %s", film->name, line, what);
-    if (word != NULL)
-        fprintf(stderr, ": %.40s", word);
+    begin_line_complaint(film, line);
+    fputs(what, stderr);
+    if (word != NULL) {
+        fputs(": ", stderr);
+        put_printable(word, 40);
+    }
     fputc('\n', stderr);
     return BAD_FILM;
 }
@@ -160,8 +202,8 @@ static enum status check_stroke(const struct film *film, const struct stroke *st
     if (refusal == ZIMAROLFO_BAD_COORDINATE)
         snprintf(place, sizeof place, " (%s of point %" PRIu32 ")",
                  zimarolfo_place(answer) % 2 == 0 ? "X" : "Y", zimarolfo_place(answer) / 2 + 1);
-    fprintf(stderr, "bands: %s:%lu: refusal %u: %s%s\n", film->name, stroke->line, refusal,
-            refusal_in_words(refusal), place);
+    begin_line_complaint(film, stroke->line);
+    fprintf(stderr, "refusal %u: %s%s\n", refusal, refusal_in_words(refusal), place);
     return BAD_FILM;
 }
 
@@ -232,6 +274,11 @@ static enum status read_stroke_line(struct film *film, unsigned long line, char 
     return status;
 }
 
+static bool starts_with(const char *text, size_t length, const char *mark)
+{
+    return length >= strlen(mark) && memcmp(text, mark, strlen(mark)) == 0;
+}
+
 static enum status read_line(struct film *film, unsigned long line, char *text, size_t length)
 {
     if (strlen(text) != length)
@@ -252,6 +299,15 @@ static enum status read_line(struct film *film, unsigned long line, char *text, 
     return read_stroke_line(film, line, rest);
 }
 
+/* Editors put a byte order mark before the first line: UTF-8's is skipped. */
+static enum status read_first_line(struct film *film, char *text, size_t length)
+{
+    if (starts_with(text, length, "\xFF\xFE") || starts_with(text, length, "\xFE\xFF"))
+        return bad_line(film, 1, "the file is UTF-16; save it as UTF-8 or ASCII", NULL);
+    size_t mark = starts_with(text, length, "\xEF\xBB\xBF") ? 3 : 0;
+    return read_line(film, 1, text + mark, length - mark);
+}
+
 static enum status read_lines(struct film *film, FILE *file)
 {
     char *text = NULL;
@@ -266,11 +322,13 @@ static enum status read_lines(struct film *film, FILE *file)
                 status = system_failed(film->name);
             break;
         }
-        status = read_line(film, ++line, text, (size_t)length);
+        status = ++line == 1 ? read_first_line(film, text, (size_t)length)
+                             : read_line(film, line, text, (size_t)length);
     }
     free(text);
     if (status == DONE && film->columns == 0) {
-        fprintf(stderr, "bands: %s: no line film COLUMNS ROWS\n", film->name);
+        begin_complaint(film->name);
+        fputs(": no line film COLUMNS ROWS\n", stderr);
         status = BAD_FILM;
     }
     return status;
@@ -285,7 +343,7 @@ static enum status read_film(struct film *film, const char *name)
     film->name = name;
     FILE *file = fopen(name, "r");
     if (file == NULL) {
-        fprintf(stderr, "bands: %s: %s\n", name, strerror(errno));
+        system_failed(name);
         return BAD_FILM;
     }
     enum status status = read_lines(film, file);
@@ -301,16 +359,57 @@ static void free_film(struct film *film)
     free(film->strokes);
 }
 
+/* --------------------------------------------------------------------- signals */
+
+/* What must not outlive this process when a signal ends it. */
+static volatile pid_t child = 0;
+static const char *volatile temporary = NULL;
+
+/* The signal's own action is back in place, and takes effect on return. */
+static void clean_up(int number)
+{
+    if (child > 0)
+        kill(child, SIGKILL);
+    if (temporary != NULL)
+        unlink(temporary);
+    raise(number);
+}
+
+static const int endings[] = {SIGHUP, SIGINT, SIGTERM};
+enum { ENDINGS = sizeof endings / sizeof endings[0] };
+
+/* A signal that was ignored from the start, as by nohup, stays ignored. */
+static enum status catch_signals(void)
+{
+    struct sigaction action, before;
+    memset(&action, 0, sizeof action);
+    action.sa_handler = clean_up;
+    action.sa_flags = (int)SA_RESETHAND;
+    for (int i = 0; i < ENDINGS; i++) {
+        if (sigaction(endings[i], NULL, &before) != 0 ||
+            (before.sa_handler != SIG_IGN && sigaction(endings[i], &action, NULL) != 0))
+            return system_failed("catching signals");
+    }
+    /* A file beyond the limit is then a failed write, and told like any other. */
+    return signal(SIGXFSZ, SIG_IGN) == SIG_ERR ? system_failed("ignoring a signal") : DONE;
+}
+
 /* -------------------------------------------------------------------- progress */
+
+/* A band's rows, each counted once for each stroke that may reach it. */
+struct work {
+    uint64_t total, done;
+};
 
 /*
  * On a terminal, long work says how far it is: after a second, and each fifth of one.
- * Work without a name says nothing.
+ * Of two bands the slower one counts, since both must be done.
  */
 struct progress {
     const char *what;
+    const struct work *works;
+    size_t count;
     bool terminal, shown;
-    uint64_t total, done;
     double start, last;
 };
 
@@ -322,17 +421,33 @@ static double seconds(void)
     return (double)now.tv_sec + (double)now.tv_nsec * 1e-9;
 }
 
-static struct progress begin(const char *what, uint64_t total)
+static struct progress begin(const char *what, const struct work *works, size_t count)
 {
-    struct progress progress = {.what = what, .total = total};
-    progress.terminal = what != NULL && isatty(STDERR_FILENO) == 1;
+    struct progress progress = {.what = what, .works = works, .count = count};
+    progress.terminal = isatty(STDERR_FILENO) == 1;
     progress.start = progress.last = seconds();
     return progress;
 }
 
-static void step(struct progress *progress)
+/* The other process counts on meanwhile. */
+static unsigned percent(const struct work *work)
 {
-    progress->done++;
+    uint64_t done = __atomic_load_n(&work->done, __ATOMIC_RELAXED);
+    return work->total == 0 ? 100 : (unsigned)(100 * done / work->total);
+}
+
+static unsigned slowest(const struct progress *progress)
+{
+    unsigned least = 100;
+    for (size_t i = 0; i < progress->count; i++) {
+        unsigned here = percent(&progress->works[i]);
+        least = here < least ? here : least;
+    }
+    return least;
+}
+
+static void tell(struct progress *progress)
+{
     if (!progress->terminal)
         return;
     double now = seconds();
@@ -340,76 +455,157 @@ static void step(struct progress *progress)
         return;
     progress->last = now;
     progress->shown = true;
-    fprintf(stderr, "\r%s: %3u%%", progress->what,
-            (unsigned)(100 * progress->done / progress->total));
+    fprintf(stderr, "\r%s: %3u%%", progress->what, slowest(progress));
 }
 
+/* Leaves the line, whatever the work came to. */
 static void end(const struct progress *progress)
 {
     if (progress->shown)
-        fprintf(stderr, "\r%s: done\n", progress->what);
+        fprintf(stderr, "\r%s: %s\n", progress->what,
+                slowest(progress) == 100 ? "done" : "ended");
 }
 
 /* --------------------------------------------------------------------- drawing */
 
-/* The rows of a stroke that lie in a band. */
-static void rows_in_band(const struct stroke *stroke, uint64_t from, uint64_t to, uint64_t *first,
-                         uint64_t *end_row)
+/* The rows from `from` to below `to`, and how far they are drawn. */
+struct band {
+    uint64_t from, to;
+    struct work *work;
+};
+
+/* A stroke's rows in a band. */
+static uint64_t first_in(const struct band *band, const struct stroke *stroke)
 {
-    *first = stroke->first_row > from ? stroke->first_row : from;
-    *end_row = stroke->end_row < to ? stroke->end_row : to;
+    return stroke->first_row > band->from ? stroke->first_row : band->from;
+}
+
+static uint64_t end_in(const struct band *band, const struct stroke *stroke)
+{
+    return stroke->end_row < band->to ? stroke->end_row : band->to;
+}
+
+static struct band make_band(const struct film *film, uint64_t from, uint64_t to, struct work *work)
+{
+    struct band band = {.from = from, .to = to, .work = work};
+    work->total = work->done = 0;
+    for (size_t i = 0; i < film->count; i++) {
+        uint64_t first = first_in(&band, &film->strokes[i]);
+        uint64_t end_row = end_in(&band, &film->strokes[i]);
+        work->total += first < end_row ? end_row - first : 0;
+    }
+    return band;
+}
+
+/* Lays a row over another one; whether it has black pixels. */
+static bool lay(uint8_t *line, const uint8_t *packed, size_t length)
+{
+    unsigned black = 0;
+    for (size_t i = 0; i < length; i++) {
+        line[i] |= packed[i];
+        black |= packed[i];
+    }
+    return black != 0;
 }
 
 /*
- * Draws the rows from `from` to below `to` into the picture of the whole film, which
- * is in the order of the file: the top row, that is the last one, comes first.
+ * Draws a row of a stroke into the picture of the whole film, which is in the order of
+ * the file: the top row, that is the last one, comes first.
  */
-static enum status draw(const struct film *film, uint64_t from, uint64_t to, uint8_t *picture,
-                        const char *what)
+static enum status draw_row(const struct film *film, struct stroke *stroke, uint64_t row,
+                            uint8_t *packed, uint8_t *picture)
+{
+    uint64_t answer = zimarolfo_packed_row(stroke->w, stroke->p, stroke->q, stroke->path,
+                                           stroke->path_len, film->columns, film->rows, row,
+                                           packed, film->row_len);
+    if (zimarolfo_refusal(answer) != ZIMAROLFO_DONE || zimarolfo_count(answer) != film->row_len) {
+        begin_line_complaint(film, stroke->line);
+        fprintf(stderr, "row %" PRIu64 ": refusal %u after a good check\n", row,
+                zimarolfo_refusal(answer));
+        return DIFFERENT;
+    }
+    if (lay(picture + (size_t)(film->rows - 1 - row) * film->row_len, packed, film->row_len))
+        stroke->leaves_pixels = true;
+    return DONE;
+}
+
+/* Tells its progress unless that is NULL. */
+static enum status draw_stroke(const struct film *film, struct stroke *stroke,
+                               const struct band *band, uint8_t *packed, uint8_t *picture,
+                               struct progress *progress)
+{
+    uint64_t end_row = end_in(band, stroke);
+    for (uint64_t row = first_in(band, stroke); row < end_row; row++) {
+        enum status status = draw_row(film, stroke, row, packed, picture);
+        if (status != DONE)
+            return status;
+        __atomic_store_n(&band->work->done, band->work->done + 1, __ATOMIC_RELAXED);
+        if (progress != NULL)
+            tell(progress);
+    }
+    return DONE;
+}
+
+static enum status draw(struct film *film, const struct band *band, uint8_t *picture,
+                        struct progress *progress)
 {
     uint8_t *packed = malloc(film->row_len);
     if (packed == NULL)
         return system_failed("no memory for a row");
-    uint64_t first, end_row, total = 0;
-    for (size_t i = 0; i < film->count; i++) {
-        rows_in_band(&film->strokes[i], from, to, &first, &end_row);
-        if (first < end_row)
-            total += end_row - first;
-    }
-    struct progress progress = begin(what, total);
     enum status status = DONE;
-    for (size_t i = 0; i < film->count && status == DONE; i++) {
-        const struct stroke *stroke = &film->strokes[i];
-        rows_in_band(stroke, from, to, &first, &end_row);
-        for (uint64_t row = first; row < end_row; row++) {
-            uint64_t answer = zimarolfo_packed_row(stroke->w, stroke->p, stroke->q, stroke->path,
-                                                   stroke->path_len, film->columns, film->rows,
-                                                   row, packed, film->row_len);
-            if (zimarolfo_refusal(answer) != ZIMAROLFO_DONE ||
-                zimarolfo_count(answer) != film->row_len) {
-                fprintf(stderr, "bands: %s:%lu: row %" PRIu64 ": refusal %u after a good check\n",
-                        film->name, stroke->line, row, zimarolfo_refusal(answer));
-                status = DIFFERENT;
-                break;
-            }
-            uint8_t *line = picture + (size_t)(film->rows - 1 - row) * film->row_len;
-            for (size_t byte = 0; byte < film->row_len; byte++)
-                line[byte] |= packed[byte];
-            step(&progress);
-        }
-    }
-    end(&progress);
+    for (size_t i = 0; i < film->count && status == DONE; i++)
+        status = draw_stroke(film, &film->strokes[i], band, packed, picture, progress);
     free(packed);
     return status;
 }
 
-static enum status wait_for(pid_t child)
+/* ------------------------------------------------------------------- two bands */
+
+enum { LOWER = 0, UPPER = 1 };
+
+/* What both processes see. */
+struct shared {
+    struct work works[2];
+    uint8_t picture[];
+};
+
+/*
+ * Draws the upper band. A parent that is killed cannot end its child, so the system
+ * does; one that was gone before that was asked for has left the child to another.
+ */
+static enum status run_child(struct film *film, const struct band *band, uint8_t *picture,
+                             pid_t parent)
+{
+#ifdef __linux__
+    if (prctl(PR_SET_PDEATHSIG, (unsigned long)SIGKILL) != 0)
+        return system_failed("tying the upper band to its parent");
+#endif
+    if (getppid() != parent)
+        return SYSTEM_FAILED;
+    return draw(film, band, picture, NULL);
+}
+
+/* Only where progress is told does it look again and again. */
+static pid_t wait_telling(int *ended, struct progress *progress)
+{
+    const struct timespec pause = {.tv_nsec = 50 * 1000 * 1000};
+    pid_t found;
+    while ((found = waitpid(child, ended, progress->terminal ? WNOHANG : 0)) == 0 ||
+           (found < 0 && errno == EINTR)) {
+        nanosleep(&pause, NULL);
+        tell(progress);
+    }
+    return found;
+}
+
+static enum status wait_for_child(struct progress *progress)
 {
     int ended;
-    while (waitpid(child, &ended, 0) < 0) {
-        if (errno != EINTR)
-            return system_failed("waiting for the upper band");
-    }
+    pid_t found = wait_telling(&ended, progress);
+    child = 0;
+    end(progress);
+    if (found < 0)
+        return system_failed("waiting for the upper band");
     if (WIFEXITED(ended))
         return (enum status)WEXITSTATUS(ended);
     fprintf(stderr, "bands: the upper band's process was ended by signal %d\n",
@@ -417,24 +613,39 @@ static enum status wait_for(pid_t child)
     return SYSTEM_FAILED;
 }
 
-/*
- * A child draws the upper band, this process the lower one, into shared memory. Only
- * this process tells its progress.
- */
-static enum status draw_in_two(const struct film *film, uint8_t *shared)
+/* Its band is of no use any more. */
+static void stop_child(void)
+{
+    kill(child, SIGKILL);
+    while (waitpid(child, NULL, 0) < 0 && errno == EINTR)
+        continue;
+    child = 0;
+}
+
+/* A child draws the upper band, this process the lower one, into shared memory. */
+static enum status draw_in_two(struct film *film, struct shared *shared)
 {
     uint64_t seam = film->rows / 2;
+    struct band lower = make_band(film, 0, seam, &shared->works[LOWER]);
+    struct band upper = make_band(film, seam, film->rows, &shared->works[UPPER]);
+    pid_t parent = getpid();
     if (fflush(NULL) != 0)
         return system_failed("before the second process");
-    pid_t child = fork();
+    child = fork();
     if (child < 0)
         return system_failed("a second process");
     if (child == 0)
-        _exit(draw(film, seam, film->rows, shared, NULL));
-    enum status lower = draw(film, 0, seam, shared, "drawing in two bands");
-    enum status upper = wait_for(child);
-    return lower != DONE ? lower : upper;
+        _exit((int)run_child(film, &upper, shared->picture, parent));
+    struct progress progress = begin("drawing in two bands", shared->works, 2);
+    enum status status = draw(film, &lower, shared->picture, &progress);
+    if (status == DONE)
+        return wait_for_child(&progress);
+    stop_child();
+    end(&progress);
+    return status;
 }
+
+/* --------------------------------------------------------------------- in one */
 
 static enum status compare(const struct film *film, const uint8_t *bands, const uint8_t *one)
 {
@@ -449,52 +660,220 @@ static enum status compare(const struct film *film, const uint8_t *bands, const 
     return DONE;
 }
 
-/* ---------------------------------------------------------------------- output */
-
-static enum status write_pbm(const struct film *film, const uint8_t *picture, const char *name)
+static void warn_of_idle_strokes(const struct film *film)
 {
-    bool standard = strcmp(name, "-") == 0;
-    FILE *file = standard ? stdout : fopen(name, "wb");
-    if (file == NULL)
-        return system_failed(name);
-    size_t length = (size_t)film->rows * film->row_len;
-    bool written =
-        fprintf(file, "P4\n%" PRIu64 " %" PRIu64 "\n", film->columns, film->rows) > 0 &&
-        fwrite(picture, 1, length, file) == length && fflush(file) == 0;
-    int error = errno;
-    if (!standard && fclose(file) != 0 && written) {
-        written = false;
-        error = errno;
+    for (size_t i = 0; i < film->count; i++) {
+        if (film->strokes[i].leaves_pixels)
+            continue;
+        begin_line_complaint(film, film->strokes[i].line);
+        fputs("warning: this stroke leaves no pixel on the film\n", stderr);
     }
-    if (written)
-        return DONE;
-    fprintf(stderr, "bands: %s: %s; the file is not whole\n", standard ? "standard output" : name,
-            strerror(error));
-    return SYSTEM_FAILED;
 }
 
-static enum status draw_film(const struct film *film, const char *output)
+static enum status draw_in_one(struct film *film, const uint8_t *bands)
+{
+    uint8_t *one = calloc((size_t)film->rows, film->row_len);
+    if (one == NULL)
+        return system_failed("no memory for the film");
+    struct work work;
+    struct band whole = make_band(film, 0, film->rows, &work);
+    struct progress progress = begin("drawing in one", &work, 1);
+    enum status status = draw(film, &whole, one, &progress);
+    end(&progress);
+    if (status == DONE)
+        status = compare(film, bands, one);
+    free(one);
+    return status;
+}
+
+/* ---------------------------------------------------------------------- output */
+
+/* 0, or why not, as errno has it; so do the next two. */
+static int put_pbm(const struct film *film, const uint8_t *picture, FILE *file)
 {
     size_t length = (size_t)film->rows * film->row_len;
-    uint8_t *bands = mmap(NULL, length, PROT_READ | PROT_WRITE, MAP_SHARED | MAP_ANONYMOUS, -1, 0);
-    if (bands == MAP_FAILED)
-        return system_failed("no memory for the bands");
-    enum status status = draw_in_two(film, bands);
-    if (status == DONE) {
-        uint8_t *one = calloc(length, 1);
-        if (one == NULL) {
-            status = system_failed("no memory for the film");
-        } else {
-            status = draw(film, 0, film->rows, one, "drawing in one");
-            if (status == DONE)
-                status = compare(film, bands, one);
-            free(one);
-        }
+    bool put = fprintf(file, "P4\n%" PRIu64 " %" PRIu64 "\n", film->columns, film->rows) > 0 &&
+               fwrite(picture, 1, length, file) == length && fflush(file) == 0;
+    return put ? 0 : errno;
+}
+
+/* A failure to close is one to write, unless an earlier one is known. */
+static int close_after(FILE *file, int error)
+{
+    return fclose(file) != 0 && error == 0 ? errno : error;
+}
+
+static int fill_temporary(const struct film *film, const uint8_t *picture, int made, mode_t mode)
+{
+    FILE *file = fdopen(made, "wb");
+    if (file == NULL) {
+        int error = errno;
+        close(made);
+        return error;
     }
+    int error = fchmod(made, mode) != 0 ? errno : put_pbm(film, picture, file);
+    if (error == 0 && fsync(made) != 0)
+        error = errno;
+    return close_after(file, error);
+}
+
+static enum status write_directly(const struct film *film, const uint8_t *picture, FILE *file,
+                                  const char *name)
+{
+    if (file == NULL)
+        return system_failed(name);
+    int error = close_after(file, put_pbm(film, picture, file));
+    return error == 0 ? DONE : failed_with(name, error, "; the film there is not whole");
+}
+
+/* The path in the folder of another one, in memory to be freed; NULL: no memory. */
+static char *beside(const char *other, const char *path)
+{
+    const char *slash = path[0] == '/' ? NULL : strrchr(other, '/');
+    size_t folder = slash == NULL ? 0 : (size_t)(slash - other) + 1;
+    char *joined = malloc(folder + strlen(path) + 1);
+    if (joined != NULL) {
+        memcpy(joined, other, folder);
+        strcpy(joined + folder, path);
+    }
+    return joined;
+}
+
+/*
+ * Where a name leads, be there a file or not, in memory to be freed; NULL: no memory,
+ * or links without end. What is wrong with a folder is seen when a file is made there.
+ */
+static char *follow_links(const char *name)
+{
+    char link[PATH_MAX];
+    char *at = strdup(name);
+    for (int links = 0; at != NULL && links < 40; links++) {
+        ssize_t length = readlink(at, link, sizeof link - 1);
+        if (length < 0)
+            return at;
+        link[length] = '\0';
+        char *next = beside(at, link);
+        free(at);
+        at = next;
+    }
+    errno = at == NULL ? errno : ELOOP;
+    free(at);
+    return NULL;
+}
+
+/* No signal may come between a file and its name's being known. */
+static int make_temporary(char *path)
+{
+    sigset_t all, before;
+    sigfillset(&all);
+    sigprocmask(SIG_BLOCK, &all, &before);
+    int made = mkstemp(path);
+    int error = errno;
+    if (made >= 0)
+        temporary = path;
+    sigprocmask(SIG_SETMASK, &before, NULL);
+    errno = error;
+    return made;
+}
+
+static enum status replace_by(const struct film *film, const uint8_t *picture, char *path,
+                              const char *target, mode_t mode)
+{
+    int made = make_temporary(path);
+    if (made < 0)
+        return failed_with(target, errno, " (for a temporary file beside it)");
+    int error = fill_temporary(film, picture, made, mode);
+    if (error == 0 && rename(path, target) != 0)
+        error = errno;
+    if (error != 0 && unlink(path) != 0)
+        system_failed(path);
+    temporary = NULL;
+    return error == 0 ? DONE : failed_with(target, error, "; the film is not written");
+}
+
+/* The film is whole on the disk before its name is, so that no half of one is seen. */
+static enum status replace(const struct film *film, const uint8_t *picture, const char *output,
+                           mode_t mode)
+{
+    char *target = follow_links(output);
+    char *path = target == NULL ? NULL : beside(target, ".bands-XXXXXX");
+    enum status status = path == NULL ? system_failed(output)
+                                      : replace_by(film, picture, path, target, mode);
+    free(path);
+    free(target);
+    return status;
+}
+
+/* What creating a file would give it: a temporary one has less. */
+static mode_t usual_mode(void)
+{
+    mode_t mask = umask(0);
+    umask(mask);
+    return (mode_t)(0666 & ~mask);
+}
+
+static enum status write_film(const struct film *film, const uint8_t *picture, const char *output)
+{
+    if (strcmp(output, "-") == 0)
+        return write_directly(film, picture, stdout, "standard output");
+    struct stat found;
+    if (stat(output, &found) != 0)
+        return replace(film, picture, output, usual_mode());
+    if (!S_ISREG(found.st_mode))
+        return write_directly(film, picture, fopen(output, "wb"), output);
+    /* Renaming would replace a write-protected file too. */
+    if (access(output, W_OK) != 0)
+        return system_failed(output);
+    return replace(film, picture, output, found.st_mode & 0777);
+}
+
+/* ------------------------------------------------------------------------ main */
+
+static bool find(const char *name, int standard, struct stat *found)
+{
+    return (strcmp(name, "-") == 0 ? fstat(standard, found) : stat(name, found)) == 0;
+}
+
+/* By whatever names: a link is another name of its file. */
+static enum status check_names(const char *input, const char *output)
+{
+    struct stat in, out;
+    if (!find(input, STDIN_FILENO, &in) || !find(output, STDOUT_FILENO, &out) ||
+        !S_ISREG(in.st_mode) || in.st_dev != out.st_dev || in.st_ino != out.st_ino)
+        return DONE;
+    begin_complaint(output);
+    fputs(": this is the film file itself; it is not overwritten\n", stderr);
+    return BAD_FILM;
+}
+
+static enum status draw_film(struct film *film, const char *output)
+{
+    size_t length = sizeof(struct shared) + (size_t)film->rows * film->row_len;
+    struct shared *shared =
+        mmap(NULL, length, PROT_READ | PROT_WRITE, MAP_SHARED | MAP_ANONYMOUS, -1, 0);
+    if (shared == MAP_FAILED)
+        return system_failed("no memory for the bands");
+    enum status status = draw_in_two(film, shared);
     if (status == DONE)
-        status = write_pbm(film, bands, output);
-    if (munmap(bands, length) != 0 && status == DONE)
+        status = draw_in_one(film, shared->picture);
+    if (status == DONE) {
+        warn_of_idle_strokes(film);
+        status = write_film(film, shared->picture, output);
+    }
+    if (munmap(shared, length) != 0 && status == DONE)
         status = system_failed("giving back the bands");
+    return status;
+}
+
+static enum status run(struct film *film, const char *input, const char *output)
+{
+    enum status status = catch_signals();
+    if (status == DONE)
+        status = check_names(input, output);
+    if (status == DONE)
+        status = read_film(film, input);
+    if (status == DONE)
+        status = draw_film(film, output);
     return status;
 }
 
@@ -507,9 +886,7 @@ int main(int argc, char **argv)
         return BAD_FILM;
     }
     struct film film = {0};
-    enum status status = read_film(&film, argv[1]);
-    if (status == DONE)
-        status = draw_film(&film, argv[2]);
+    enum status status = run(&film, argv[1], argv[2]);
     if (status == DONE)
         fprintf(stderr, "bands: %" PRIu64 " by %" PRIu64 ", %zu stroke%s: both bands equal the film in one\n",
                 film.columns, film.rows, film.count, film.count == 1 ? "" : "s");

@@ -1,15 +1,16 @@
 /*
  * Puts a fault between a C program and the library, to see that the tests over it can
  * fail. Linked with -Wl,--wrap=zimarolfo_row,--wrap=zimarolfo_packed_row; the variable
- * FAULT names the fault, and without it there is none.
+ * FAULT names the faults, and without it there is none.
  */
 #define _POSIX_C_SOURCE 200809L
 
 #include "../host/zimarolfo.h"
+#include "faults.h"
 
-#include <stdbool.h>
 #include <stdlib.h>
 #include <string.h>
+#include <time.h>
 #include <unistd.h>
 
 uint64_t __real_zimarolfo_row(uint64_t, uint64_t, uint64_t, const uint8_t *, size_t, uint64_t,
@@ -21,10 +22,11 @@ uint64_t __wrap_zimarolfo_row(uint64_t, uint64_t, uint64_t, const uint8_t *, siz
 uint64_t __wrap_zimarolfo_packed_row(uint64_t, uint64_t, uint64_t, const uint8_t *, size_t,
                                      uint64_t, uint64_t, uint64_t, uint8_t *, size_t);
 
-static bool fault(const char *name)
+/* No fault's name is a part of another's. */
+bool fault(const char *name)
 {
     const char *wanted = getenv("FAULT");
-    return wanted != NULL && strcmp(wanted, name) == 0;
+    return wanted != NULL && strstr(wanted, name) != NULL;
 }
 
 enum { POINT = 8, LONGEST = 4096 * POINT };
@@ -174,8 +176,13 @@ uint64_t __wrap_zimarolfo_packed_row(uint64_t w, uint64_t p, uint64_t q, const u
                                      uint64_t row, uint8_t *bytes, size_t bytes_len)
 {
     static pid_t first_process = 0;
+    const struct timespec millisecond = {.tv_nsec = 1000 * 1000};
     if (first_process == 0)
         first_process = getpid();
+    if (fault("slow"))
+        nanosleep(&millisecond, NULL);
+    if (fault("refuses-in-the-first-process") && row > 0 && getpid() == first_process)
+        return ZIMAROLFO_BAD_ROW;
     struct path own = seen(path, path_len);
     uint64_t answer = __real_zimarolfo_packed_row(w, p, q, own.bytes, own.length, columns, rows,
                                                   row, bytes, bytes_len);
