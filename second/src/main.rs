@@ -54,10 +54,10 @@ fn run(words: &[&str]) -> Result<(), String> {
             say(extent::compare(&file(records)?, &file(answers)?))
         }
         ["table-calls", count, seed] => {
-            let mut source = Source::new(number(seed)?);
-            let count: u64 = number(count)?;
-            let bytes: Vec<u8> = (0..count).flat_map(|_| source.next().to_bytes()).collect();
-            put(&bytes)
+            let commands = Source::new(number(seed)?).take(number(count)?);
+            put(&commands
+                .flat_map(|command| command.to_bytes())
+                .collect::<Vec<u8>>())
         }
         ["compare-table-calls", commands, answers] => {
             say(table_calls::compare(&file(commands)?, &file(answers)?))

@@ -93,7 +93,7 @@ impl Command {
         let Some(&kind) = KINDS.get(numbers[0] as usize) else {
             return Err(format!("{} is no kind of command", numbers[0]));
         };
-        let length = 4 * numbers[6] as usize;
+        let length = (numbers[6] as usize).saturating_mul(4);
         if rest.len() < length {
             return Err("the commands break off".to_string());
         }
@@ -238,6 +238,10 @@ pub struct Counts {
     pub several: u64,
     pub exact: u64,
     pub no_room: u64,
+    /// The most runs in a row.
+    pub most: usize,
+    /// The most entries of a path that was not refused.
+    pub longest: usize,
     /// Whether the table was full since it was last empty.
     filled: bool,
 }
@@ -272,7 +276,11 @@ impl Counts {
         };
         let unit = if packed { 1 } else { 4 };
         self.black += u64::from(black);
-        self.several += u64::from(!packed && answer.count > 1);
+        self.longest = self.longest.max(command.path.len() / 4);
+        if !packed {
+            self.several += u64::from(answer.count > 1);
+            self.most = self.most.max(answer.count);
+        }
         self.exact += u64::from(black && lent.len() == unit * answer.count);
     }
 }
@@ -287,14 +295,16 @@ impl fmt::Display for Counts {
             f,
             "table calls: {defines} definitions, {removals} removals, {rows} rows, {packed} packed rows, {records} records, {starts} starts anew; \
              refusal {}; {} times full, {} times emptied after that; \
-             {} with black pixels, {} with several runs, {} with room for exactly these, {} with no room",
+             {} with black pixels, {} with several runs and at most {}, {} with room for exactly these, {} with no room, paths of at most {} entries",
             refusals.join(", "),
             self.full,
             self.emptied,
             self.black,
             self.several,
+            self.most,
             self.exact,
-            self.no_room
+            self.no_room,
+            self.longest
         )
     }
 }
@@ -364,8 +374,7 @@ mod tests {
     const COUNT: usize = 6_000;
 
     fn some_commands() -> Vec<Command> {
-        let mut source = Source::new(1);
-        (0..COUNT).map(|_| source.next()).collect()
+        Source::new(1).take(COUNT).collect()
     }
 
     /// The commands as one stream.
@@ -601,20 +610,13 @@ mod tests {
     /// again, and there are long paths, wide rasters and many runs.
     #[test]
     fn kinds() {
-        let mut source = Source::new(2);
         let mut own = Answerer::default();
         let mut counts = Counts::default();
-        let (mut longest, mut too_long, mut most) = (0, 0, 0);
-        for _ in 0..20_000 {
-            let command = source.next();
+        let mut too_long = 0;
+        for command in Source::new(2).take(20_000) {
             let answer = own.answer(&command);
             counts.count(&command, &answer, own.table.in_use());
-            let entries = command.path.len() / 4;
-            longest += usize::from(answer.refusal == 0 && entries == 8_192);
-            too_long += usize::from(entries > 8_192);
-            if let (Some((answer, _)), Kind::Row | Kind::Records) = (&answer.drawn, command.kind) {
-                most = most.max(answer.count);
-            }
+            too_long += usize::from(command.path.len() > 4 * 8_192);
         }
         let [starts, calls @ ..] = counts.kinds;
         assert!(starts > 20 && calls.iter().all(|&n| n > 2_000), "{counts}");
@@ -622,9 +624,7 @@ mod tests {
         assert!(counts.full > 50 && counts.emptied > 20, "{counts}");
         assert!(counts.black > 2_000 && counts.several > 200, "{counts}");
         assert!(counts.exact > 1_000 && counts.no_room > 1_000, "{counts}");
-        assert!(
-            longest > 0 && too_long > 0 && most > 1_000,
-            "{longest} {too_long} {most}"
-        );
+        assert!(counts.most > 1_000 && counts.longest == 8_192, "{counts}");
+        assert!(too_long > 0);
     }
 }

@@ -50,6 +50,25 @@ fn strange_number(sequence: &mut Sequence) -> u64 {
     }
 }
 
+/// A command without a room and a path.
+fn command(kind: Kind, number: u64, numbers: [u64; 3]) -> Command {
+    Command {
+        kind,
+        number,
+        numbers,
+        room: 0,
+        path: Vec::new(),
+    }
+}
+
+fn define(number: u64, setting: Setting) -> Command {
+    command(Kind::Define, number, [setting.w, setting.p, setting.q])
+}
+
+fn remove(number: u64) -> Command {
+    command(Kind::Remove, number, [0; 3])
+}
+
 /// Up and down across the row in a line over all columns, a run to each leg where
 /// the pen is narrow.
 fn zigzag(sequence: &mut Sequence, setting: &Setting, row: u64) -> Vec<u8> {
@@ -90,26 +109,6 @@ impl Source {
         }
     }
 
-    fn define(&mut self, number: u64, setting: Setting) -> Command {
-        Command {
-            kind: Kind::Define,
-            number,
-            numbers: [setting.w, setting.p, setting.q],
-            room: 0,
-            path: Vec::new(),
-        }
-    }
-
-    fn remove(&mut self, number: u64) -> Command {
-        Command {
-            kind: Kind::Remove,
-            number,
-            numbers: [0; 3],
-            room: 0,
-            path: Vec::new(),
-        }
-    }
-
     /// Any number, and a setting that is good or bad.
     fn some_define(&mut self) -> Command {
         let number = match self.sequence.below(4) {
@@ -120,7 +119,7 @@ impl Source {
             0 => bad_setting(&mut self.sequence),
             _ => some_setting(&mut self.sequence),
         };
-        self.define(number, setting)
+        define(number, setting)
     }
 
     fn some_remove(&mut self) -> Command {
@@ -128,7 +127,7 @@ impl Source {
             0 => strange_number(&mut self.sequence),
             n => self.one_of(&self.numbers(n == 1)),
         };
-        self.remove(number)
+        remove(number)
     }
 
     /// An aperture in use with a pen about as wide as this one's; now and then
@@ -183,41 +182,37 @@ impl Source {
         let kind = [Kind::Row, Kind::Packed, Kind::Records][self.sequence.below(3) as usize];
         let call = some_call(&mut self.sequence);
         let number = self.some_aperture(call.setting);
-        let mut command = Command {
-            kind,
-            number,
-            numbers: [call.columns, call.rows, call.row],
-            room: 0,
-            path: call.path,
-        };
+        let mut drawn = command(kind, number, [call.columns, call.rows, call.row]);
+        drawn.path = call.path;
         // Whole entries, and no more than can be held.
-        let entries = (command.path.len() / 4).min(ENTRIES_MAX);
-        command.path.truncate(4 * entries);
+        let entries = (drawn.path.len() / 4).min(ENTRIES_MAX);
+        drawn.path.truncate(4 * entries);
         if let Some(setting) = self.table.setting(number) {
             if setting.dx() <= 2 && self.sequence.below(300) == 0 {
-                command.numbers[0] = 16_384;
-                command.path = zigzag(&mut self.sequence, &setting, call.row.min(16_383));
+                drawn.numbers[0] = 16_384;
+                drawn.path = zigzag(&mut self.sequence, &setting, call.row.min(16_383));
             }
         }
-        command.room = self.some_room(&command);
-        command
+        drawn.room = self.some_room(&drawn);
+        drawn
     }
 
     /// Any command; the empty table again only now and then.
     fn any(&mut self) -> Command {
         match self.sequence.below(400) {
-            0 => Command {
-                kind: Kind::Start,
-                ..self.remove(0)
-            },
+            0 => command(Kind::Start, 0, [0; 3]),
             n if n % 8 == 1 => self.some_define(),
             n if n % 8 == 2 => self.some_remove(),
             _ => self.some_draw(),
         }
     }
+}
 
-    /// The next command, and the table after it.
-    pub fn next(&mut self) -> Command {
+impl Iterator for Source {
+    type Item = Command;
+
+    /// The next command, after which the table is what the command makes it.
+    fn next(&mut self) -> Option<Command> {
         let (vacant, in_use) = (self.numbers(false), self.numbers(true));
         self.phase = match self.phase {
             Phase::Full if vacant.is_empty() => Phase::Any(self.sequence.below(400)),
@@ -234,11 +229,11 @@ impl Source {
             Phase::Full if towards => {
                 let number = self.one_of(&vacant);
                 let setting = some_setting(&mut self.sequence);
-                self.define(number, setting)
+                define(number, setting)
             }
             Phase::Empty if towards => {
                 let number = self.one_of(&in_use);
-                self.remove(number)
+                remove(number)
             }
             _ => self.any(),
         };
@@ -255,6 +250,6 @@ impl Source {
             }
             _ => {}
         }
-        command
+        Some(command)
     }
 }
