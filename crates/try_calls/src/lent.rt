@@ -6,8 +6,8 @@ use checks::Answer;
 use records::Run;
 ghost use mathlib.Core.Path.{_≡_};
 ghost use Prim.Native.Nat.{_≤_};
-ghost use Rattle.try_calls.specs.Command.{recordsMax};
 ghost use lib.ListN.{take};
+ghost use Rattle.try_calls.specs.Command.{recordsMax};
 ghost use Rattle.try_calls.specs.Lent.{lent};
 ghost use Rattle.try_calls.specs.Pattern.{runAt, pattern};
 

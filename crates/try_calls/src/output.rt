@@ -9,7 +9,7 @@ ghost use Prim.Native.Nat.{_≤_};
 ghost use lib.ListN.{length};
 ghost use Rattle.try_calls.specs.Command.{roomMax, recordsMax};
 
-// Tells why the stream is left. Never true, as `put` where nothing is written.
+// Tells why the stream is left, and answers false: no command can follow.
 pub fn leave(why: &[u8]) -> bool {
     io::write_all(STDERR_FILENO, b"try_calls: ");
     io::write_all(STDERR_FILENO, why);
@@ -17,6 +17,7 @@ pub fn leave(why: &[u8]) -> bool {
     false
 }
 
+// Whether the bytes are written.
 pub fn put(bytes: &[u8]) -> bool {
     if io::write_all(STDOUT_FILENO, bytes) {
         return true;
