@@ -113,7 +113,7 @@ impl fmt::Display for Call {
 
 /// Numbers that are out of most limits, and such as come back into them in
 /// narrower arithmetic.
-fn far_number(sequence: &mut Sequence) -> u64 {
+pub(crate) fn far_number(sequence: &mut Sequence) -> u64 {
     let small = sequence.below(20);
     match sequence.below(5) {
         0 => u64::MAX,
@@ -124,7 +124,7 @@ fn far_number(sequence: &mut Sequence) -> u64 {
     }
 }
 
-fn bad_setting(sequence: &mut Sequence) -> Setting {
+pub(crate) fn bad_setting(sequence: &mut Sequence) -> Setting {
     loop {
         let mut bad = some_setting(sequence);
         match sequence.below(8) {

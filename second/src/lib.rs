@@ -18,3 +18,6 @@ pub mod segments;
 pub mod setting;
 pub mod stream;
 pub mod sweep;
+pub mod table;
+pub mod table_calls;
+pub mod table_stream;

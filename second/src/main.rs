@@ -2,7 +2,8 @@
 //! drawer with. See README.md for the commands and their byte streams.
 
 use second::setting::Setting;
-use second::{extent, paper, paper_rows, pbm, pens, row, segments, stream};
+use second::table_stream::Source;
+use second::{extent, paper, paper_rows, pbm, pens, row, segments, stream, table_calls};
 use std::io::{Read, Write};
 use std::process::ExitCode;
 
@@ -15,6 +16,8 @@ const USAGE: &str = "usage: second COMMAND
   raster-segments N SEED
   extents
   compare-extents RECORDS ANSWERS
+  table-calls N SEED
+  compare-table-calls COMMANDS ANSWERS
   row COLUMNS ROWS ROW ROOM W P Q X Y [X Y ...]
   pbm COLUMNS ROWS W P Q X Y [X Y ...] [/ W P Q X Y ...]";
 
@@ -49,6 +52,15 @@ fn run(words: &[&str]) -> Result<(), String> {
         ["extents"] => put(&extent::answers(&input()?)?),
         ["compare-extents", records, answers] => {
             say(extent::compare(&file(records)?, &file(answers)?))
+        }
+        ["table-calls", count, seed] => {
+            let commands = Source::new(number(seed)?).take(number(count)?);
+            put(&commands
+                .flat_map(|command| command.to_bytes())
+                .collect::<Vec<u8>>())
+        }
+        ["compare-table-calls", commands, answers] => {
+            say(table_calls::compare(&file(commands)?, &file(answers)?))
         }
         ["row", columns, rows, row, room, stroke_words @ ..] => {
             let stroke = stroke(stroke_words)?;

@@ -1,0 +1,4 @@
+-- What the tool reads, and what it lends.
+pub mod Command
+pub mod Lent
+pub mod Pattern
