@@ -14,6 +14,10 @@ use std::fmt;
 /// Of so many calls one has a large drawing.
 const LARGE: u64 = 15;
 
+/// How many segments are asked about a column, in a call that the literal way
+/// always decides.
+pub const MOST_QUESTIONS: u64 = 40_000;
+
 /// One call of one of the two functions.
 pub struct Call {
     pub packed: bool,
@@ -66,7 +70,7 @@ impl Call {
     }
 
     pub fn is_large(&self) -> bool {
-        self.questions() > 40_000
+        self.questions() > MOST_QUESTIONS
     }
 
     /// Whether the literal way is to decide: small calls always, large ones the

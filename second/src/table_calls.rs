@@ -11,6 +11,7 @@
 //! the count, of eight bytes each, and all that was lent as it is then: two bytes
 //! to a number, one to a byte, four to a record.
 
+use crate::calls::MOST_QUESTIONS;
 use crate::fast::Drawer;
 use crate::row::{self, Answer, Request};
 use crate::setting::Setting;
@@ -193,7 +194,7 @@ impl Answerer {
         };
         let request = command.request(setting);
         let points = command.path.len() as u64 / 8;
-        let dear = request.columns.min(16_384) * points > 200_000;
+        let dear = request.columns.min(16_384) * points > MOST_QUESTIONS;
         match (command.kind, dear) {
             (Kind::Packed, false) => row::packed_row(&request, lent),
             (Kind::Packed, true) => self.fast.packed_row(&request, lent),
