@@ -5,7 +5,7 @@ use libc::STDOUT_FILENO;
 ghost use mathlib.Core.Path.{_≡_};
 ghost use Rattle.limits.specs.declared.Verdict.the-variants.{Passed};
 ghost use Rattle.checks.specs.Answer.{given};
-ghost use Rattle.drawing.specs.Film.{fileOffer};
+ghost use Rattle.pbm.specs.Pbm.{fileOffer};
 ghost use Rattle.drawing.specs.Cases.{dotBytes};
 
 fn dot(out: &mut [u8]) -> Answer

@@ -12,9 +12,8 @@ use lib.Seq.{take-all, take-at, take-nil, drop-nil, length-take-le, slice}
 use lib.IntN.{ℤ}
 use borrow.Author.Tests.{leb-true, leb-false}
 use Rattle.aperture.specs.Table.{empty, defined}
-use Rattle.limits.specs.Sizes.{apertureMin, isSize}
-use Rattle.pbm.specs.Pbm.{header, topFirst, started, Put, headerPut}
-use Rattle.pbm.proofs.Pieces.{header-fits, header-put}
+use Rattle.limits.specs.Sizes.{apertureMin}
+use Rattle.pbm.specs.Pbm.{topFirst}
 use Rattle.drawing.specs.Film.{settingAt, tableUpTo, Drawing, pathOf, added, rowUpTo}
 
 pub none : (l : List ℕ) → empty ≡ tableUpTo l 0
@@ -88,11 +87,6 @@ put-row f out new rest at w (suc r) h k l e =
 pub last-row : (f : ℕ → List ℕ) (out : List ℕ) (at row : ℕ) → row ≡ 0 → length out ≤ at → out ≡ take at out ++ topFirst row f
 unfolding topFirst
 last-row f out at row e h = sym (take-all at out h) ∙ sym (append-nil (take at out)) ∙ ap (λ (r : ℕ). take at out ++ topFirst r f) (sym e)
-
--- a header that fits is put whole
-pub put-whole : (columns rows : ℕ) (b : List ℕ) → isSize columns ≡ true → isSize rows ≡ true → length (header columns rows) ≤ length b →
-    headerPut columns rows b ≡ record { count = length (header columns rows); buffer = started (header columns rows) b }
-put-whole columns rows b h k l = sym (header-put columns rows b (header-fits columns rows b h k l) refl refl)
 
 -- what stands behind the header is all replaced
 pub replaced : (h new last : List ℕ) (at : ℕ) → take at last ≡ h → take at last ++ (new ++ drop (length last - at) (drop at last)) ≡ h ++ new

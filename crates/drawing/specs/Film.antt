@@ -10,9 +10,9 @@ use Rattle.setting.specs.declared.Setting.{Setting}
 use Rattle.aperture.specs.declared.Table.{Table}
 use Rattle.aperture.specs.Table.{empty, defined}
 use Rattle.checks.specs.Checks.{rasterVerdict}
-use Rattle.checks.specs.Answer.{Result, Offer, given}
+use Rattle.checks.specs.Answer.{Result, given}
 use Rattle.packed.specs.Packed.{packedLength, packedCall}
-use Rattle.pbm.specs.Pbm.{header, file, started}
+use Rattle.pbm.specs.Pbm.{header, file, fileOffer}
 use Rattle.drawing.specs.declared.Sheet.{Sheet}
 
 -- the setting at place i of a list of w, p, q, w, p, q, ..
@@ -63,10 +63,6 @@ film d columns rows = file columns rows (rowOf d columns rows (packedLength colu
 -- how many bytes that file has
 abbrev pub filmLength : ℕ → ℕ → ℕ
 filmLength columns rows = length (header columns rows) + rows * packedLength columns
-
--- what a call offers that has this file: it stands at the start of the buffer, the rest of which is unchanged
-abbrev pub fileOffer : List ℕ → List ℕ → Offer ℕ
-fileOffer f b = record { count = length f; space = length b; after = started f b; before = b }
 
 -- the film as a file in a buffer: 4, "raster size outside 1 to 16,384", comes before 7
 abbrev pub filmPut : Drawing → ℕ → ℕ → List ℕ → Result ℕ

@@ -62,8 +62,8 @@ pub fn length_of(columns: u64, rows: u64) -> usize
     ensures { λ r. ⌜ r ≡ filmLength columns rows ⌝ }
 {
     let mut header = [0u8; HEADER_MAX];
-    let at = pbm::put_header(&mut header, columns, rows);
-    at + rows as usize * row_length(columns)
+    let put = pbm::put_header(&mut header, columns, rows);
+    put.count as usize + rows as usize * row_length(columns)
 }
 
 // Fills out with the whole file.
@@ -73,7 +73,8 @@ pub fn put_file(sheet: Sheet, apertures: &[u64], starts: &[usize], entries: &[i3
     ensures { λ _. ⌜ now (out .exit) ≡ film (drawingOf sheet (now (apertures .entry)) (now (starts .entry)) (now (entries .entry))) (sheet .columns) (sheet .rows) ⌝ }
 {
     let width = row_length(sheet.columns);
-    let at = pbm::put_header(out, sheet.columns, sheet.rows);
+    let put = pbm::put_header(out, sheet.columns, sheet.rows);
+    let at = put.count as usize;
     let mut part = [0u8; ROW_MAX];
     put_rows(
         sheet,

@@ -6,7 +6,8 @@ use denote.Ref.{now}
 use Rattle.limits.specs.declared.Verdict.the-variants.{Passed}
 use Rattle.checks.specs.Answer.{given}
 use Rattle.aperture.specs.declared.Table.{Table}
-use Rattle.drawing.specs.Film.{fileOffer, filmPut}
+use Rattle.pbm.specs.Pbm.{fileOffer}
+use Rattle.drawing.specs.Film.{filmPut}
 use Rattle.drawing.specs.Cases.{dotPath}
 use Rattle.drawing.proofs.Dot.{dot-film}
 use borrow.Author.Needs.{needs}

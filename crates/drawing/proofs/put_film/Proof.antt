@@ -10,7 +10,8 @@ use Rattle.checks.specs.Checks.{roomVerdict}
 use Rattle.checks.specs.Answer.{Offer, done}
 use Rattle.checks.proofs.Verdicts.{room-passed}
 use Rattle.checks.proofs.Given.{refused-here, passed-here, no-room, room-left}
-use Rattle.drawing.specs.Film.{Drawing, film, fileOffer, Raster}
+use Rattle.pbm.specs.Pbm.{fileOffer}
+use Rattle.drawing.specs.Film.{Drawing, film, Raster}
 use Rattle.drawing.proofs.Put.{film-long, raster-passed}
 use Rattle.drawing.proofs.put_film.Statement.{statement}
 use Rattle.drawing.proofs.put_film.Tie as tie
