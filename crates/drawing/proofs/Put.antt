@@ -2,25 +2,23 @@
 use Prim.Native.Nat.{ℕ, zero, suc, _+_, _*_, _≤_}
 use native.Mathlib.Nat.{mul-le-mul}
 use native.Mathlib.Omega.{arith}
-use mathlib.Core.Path.{_≡_, refl, sym, ap, _∙_}
-use mathlib.Core.Bool.{Bool, true, false}
+use mathlib.Core.Path.{_≡_, refl, ap, _∙_}
 use mathlib.Core.List.{List, _∷_}
-use lib.Dec.{leb}
 use lib.ListN.{length, take, replicate, length-append, length-replicate}
-use borrow.Author.Tests.{le-leb, leb-true}
+use borrow.Author.Tests.{le-leb}
 use Rattle.limits.specs.Sizes.{rasterMax}
-use Rattle.limits.specs.Refusal.{room, unless}
 use Rattle.limits.specs.declared.Verdict.{Verdict}
-use Rattle.limits.specs.declared.Verdict.the-variants.{Passed, Refused}
+use Rattle.limits.specs.declared.Verdict.the-variants.{Passed}
 use Rattle.limits.proofs.Sizes.{size-iff}
 use Rattle.checks.specs.Checks.{rasterVerdict}
-use Rattle.checks.specs.Answer.{done, settled, given}
+use Rattle.checks.specs.Answer.{done}
 use Rattle.packed.specs.Packed.{packedLength}
-use Rattle.pbm.specs.Pbm.{decimal, header, topFirst, started, fileOffer, headerPut}
+use Rattle.pbm.specs.Pbm.{decimal, header, topFirst, started, headerPut}
 use Rattle.pbm.proofs.Decimal.{size-few}
 use Rattle.pbm.proofs.Pieces.{header-length, raster-sizes}
 use Rattle.pbm.proofs.Theorems.{top-first}
-use Rattle.drawing.specs.Film.{Drawing, rowUpTo, rowOf, film, filmLength, filmPut, Raster}
+use Rattle.drawing.specs.Strokes.{Drawing}
+use Rattle.drawing.specs.Film.{rowUpTo, rowOf, film, filmLength, Raster}
 use Rattle.drawing.proofs.Over.{over-length}
 
 -- ---- the length of a film
@@ -61,16 +59,3 @@ pub zeros : (k n : ℕ) → k ≤ n → take {A = ℕ} k (replicate n 0) ≡ rep
 zeros zero n h = refl
 zeros (suc k) zero h = absurd (omega arith)
 zeros (suc k) (suc n) h = ap (λ (l : List ℕ). 0 ∷ l) (zeros k n (omega arith))
-
--- ---- what is answered
--- no more is counted than the buffer holds
-given-most : (v : Verdict) (f b : List ℕ) → given v (fileOffer f b) .answer .count ≤ length b
-given-most (Refused n place) f b = omega arith
-given-most Passed f b = go (leb (length f) (length b)) refl
-  where
-    go : (t : Bool) → leb (length f) (length b) ≡ t → settled (unless t room) (fileOffer f b) .answer .count ≤ length b
-    go true h = leb-true (length f) (length b) h
-    go false h = omega arith
-
-pub count-most : (d : Drawing) (columns rows : ℕ) (b : List ℕ) → filmPut d columns rows b .answer .count ≤ length b
-count-most d columns rows b = given-most (rasterVerdict columns rows) (film d columns rows) b

@@ -10,7 +10,8 @@ use borrow.Author.Needs.{needs}
 use Rattle.packed.specs.Packed.{packedLength}
 use Rattle.checks.specs.Answer.{Result, done}
 use Rattle.pbm.specs.Pbm.{header, topFirst, started}
-use Rattle.drawing.specs.Film.{Drawing, drawingOf, rowOf}
+use Rattle.drawing.specs.Strokes.{Drawing}
+use Rattle.drawing.specs.Film.{drawingOf, rowOf}
 use Rattle.drawing.proofs.Rows.{replaced}
 use Rattle.drawing.proofs.Put.{header-put-whole, zeros}
 use Rattle.drawing.proofs.film.put_file.Statement.{statement}

@@ -1,5 +1,5 @@
 -- Each turn puts one row more behind those that are there.
-use Prim.Native.Nat.{ℕ, _+_, _*_, _-_, _≤_, _<_}
+use Prim.Native.Nat.{ℕ, _+_, _*_, _-_, _≤_}
 use native.Mathlib.Nat.{zero-mul}
 use native.Mathlib.Omega.{arith}
 use mathlib.Core.Path.{_≡_, refl, sym, ap, _∙_}
@@ -9,7 +9,8 @@ use denote.Ref.{now}
 use borrow.Rule.Slice.PartMut.{same-len-mid}
 use borrow.Author.Needs.{needs}
 use Rattle.pbm.specs.Pbm.{topFirst}
-use Rattle.drawing.specs.Film.{Drawing, drawingOf, rowOf}
+use Rattle.drawing.specs.Strokes.{Drawing}
+use Rattle.drawing.specs.Film.{drawingOf, rowOf}
 use Rattle.drawing.proofs.Rows.{turn, put-row, last-row}
 use Rattle.drawing.proofs.film.put_rows.Statement.{statement}
 use Rattle.drawing.proofs.film.put_rows.Tie as tie
