@@ -23,7 +23,7 @@ use Rattle.pbm.specs.Pbm.{decimal, header, topFirst}
 use Rattle.pbm.proofs.Theorems.{decimal-reads, top-first}
 use Rattle.drawing.specs.Strokes.{Drawing, pathOf}
 use Rattle.drawing.specs.Film.{rowOf, film, filmPut}
-use Rattle.drawing.specs.Theorems.{Width, settingOf, DrawableFilm, StrokeBlack, BitBlack, FilmRow, FilmBits, FilmBit}
+use Rattle.drawing.specs.Theorems.{RowWidth, settingOf, DrawableFilm, StrokeBlack, BitBlack, FilmRow, FilmBits, FilmBit}
 use Rattle.drawing.proofs.Put.{film-long}
 use Rattle.drawing.proofs.Packed.{anyBelow, row-packed}
 use Rattle.drawing.proofs.Drawable.{film-taken, film-gave}
@@ -168,7 +168,7 @@ module _ (d : Drawing) (columns rows : ℕ) (s : DrawableFilm d columns rows) wh
   }
 
 -- the least number of bytes that hold the columns is the definition's
-width-is : {columns width : ℕ} → Width columns width → packedLength columns ≡ width
+width-is : {columns width : ℕ} → RowWidth columns width → packedLength columns ≡ width
 width-is w = omega (arith, w .enough, w .least)
 
 pub film-row : FilmRow

@@ -23,7 +23,7 @@ use Rattle.checks.proofs.Given.{Gave, zero-gave}
 use Rattle.pbm.specs.Pbm.{fileOffer}
 use Rattle.drawing.specs.Strokes.{Drawing, pathOf, firstRefused, strokesVerdict, filmVerdict}
 use Rattle.drawing.specs.Film.{film, filmPut}
-use Rattle.drawing.specs.Theorems.{Done, DrawableFilm, FilmTaken}
+use Rattle.drawing.specs.Theorems.{FilmDone, DrawableFilm, FilmTaken}
 use Rattle.drawing.proofs.Told.{takes-passed, strokes-told, all-taken, film-not-zero}
 
 -- ---- the aperture
@@ -64,7 +64,7 @@ drawable-film d columns rows r e = record {
         then-both (lookedVerdict (looked (d .table) (getD (d .apertures) k 0))) (verdict (pathOf (d .starts) (d .entries) k) columns rows 0) (takes-passed d columns rows k (taken k h))
 
 -- a film that answered 0 was given
-pub film-gave : (d : Drawing) (columns rows width : ℕ) (b : List ℕ) → Done d columns rows width b →
+pub film-gave : (d : Drawing) (columns rows width : ℕ) (b : List ℕ) → FilmDone d columns rows width b →
     let r = filmPut d columns rows b in Gave (filmVerdict d columns rows) (fileOffer (film d columns rows) b) (r .answer) (r .list)
 film-gave d columns rows width b s =
     let r = filmPut d columns rows b in

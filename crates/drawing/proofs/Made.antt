@@ -30,7 +30,7 @@ use Rattle.aperture.proofs.Delivered.{defined-gives, defining-keeps}
 use Rattle.aperture.proofs.Refusals.{define-refuses}
 use Rattle.drawing.specs.declared.Tabled.{Tabled}
 use Rattle.drawing.specs.Settings.{settingAt, settingCount, tabledFrom, tableOf}
-use Rattle.drawing.specs.Theorems.{Made, TableMade}
+use Rattle.drawing.specs.Theorems.{MadeTable, TableMade}
 use Rattle.drawing.proofs.Defined.{none-left, next-defined, next-refused}
 
 -- the first i settings of the list stand in the table, and no later aperture is in use
@@ -121,7 +121,7 @@ pub table-made : TableMade
 table-made l = go (ended l (settingCount l) 0 (settingCount l) empty (omega arith) (begin l))
   where
     made : (i : ℕ) (t : Table) → i < settingCount l → Begun l i t → ¬ (defined t (10 + i) (settingAt l i) .refusal ≡ 0) →
-        Made l (record { refusal = defined t (10 + i) (settingAt l i) .refusal; place = i; table = empty })
+        MadeTable l (record { refusal = defined t (10 + i) (settingAt l i) .refusal; place = i; table = empty })
     made i t h b n = record {
       reachable = starts;
       holds = λ z. absurd (n z);
@@ -133,6 +133,6 @@ table-made l = go (ended l (settingCount l) 0 (settingCount l) empty (omega arit
       none = λ z. refl;
     }
 
-    go : Ended l (settingCount l) (tableOf l) → Made l (tableOf l)
+    go : Ended l (settingCount l) (tableOf l) → MadeTable l (tableOf l)
     go (whole e b) = record { reachable = b .reachable; holds = λ z. b .holds; refused = λ h. absurd (h e); none = λ h. absurd (h e) }
-    go (broken i t h b n q) = subst (Made l) (sym q) (made i t h b n)
+    go (broken i t h b n q) = subst (MadeTable l) (sym q) (made i t h b n)

@@ -9,7 +9,6 @@ use Rattle.aperture.specs.declared.Table.{Table}
 use Rattle.checks.specs.Answer.{Result, given}
 use Rattle.packed.specs.Packed.{packedLength, packedCall}
 use Rattle.pbm.specs.Pbm.{header, file, fileOffer}
-use Rattle.drawing.specs.declared.Sheet.{Sheet}
 use Rattle.drawing.specs.Strokes.{Drawing, pathOf, filmVerdict}
 
 -- bytes with those of another row laid over them: black is 1, so a bit is 1 where either has it
@@ -43,10 +42,6 @@ abbrev pub filmPut : Drawing → ℕ → ℕ → List ℕ → Result ℕ
 filmPut d columns rows b = given (filmVerdict d columns rows) (fileOffer (film d columns rows) b)
 
 -- ---- what the code is asked
--- the drawing of a sheet and the lists beside it
-abbrev pub drawingOf : Sheet → List ℕ → List ℕ → List ℤ → Drawing
-drawingOf s apertures starts entries = record { table = s .table; apertures = apertures; starts = starts; entries = entries }
-
 -- the sizes of a raster that is drawn
 pub record Raster (columns rows : ℕ) : Type 0 where
   pub columns-size : Size columns

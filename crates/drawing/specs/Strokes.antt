@@ -23,6 +23,9 @@ pub record Drawing : Type 0 where
   pub starts : List ℕ
   pub entries : List ℤ
 
+abbrev pub drawingOf : Table → List ℕ → List ℕ → List ℤ → Drawing
+drawingOf t apertures starts entries = record { table = t; apertures = apertures; starts = starts; entries = entries }
+
 -- the path of stroke k: the entries from start k on and before start k + 1, a start that is missing counting as 0. Where the two are not in order, or the list
 -- of entries ends before the second, there are none, and the stroke is refused with 2
 unfoldable pub pathOf : List ℕ → List ℤ → ℕ → List ℤ

@@ -10,7 +10,6 @@ use mathlib.Core.List.{List}
 use lib.ListN.{length, getD, take, drop, replicate}
 use lib.IntN.{pos}
 use Rattle.limits.specs.declared.Verdict.the-variants.{Passed}
-use Rattle.limits.specs.Exactly.{_when_else_, done, BadRaster, NoRoom}
 use Rattle.setting.specs.declared.Setting.{Setting}
 use Rattle.setting.specs.Exactly.{BadSetting}
 use Rattle.pen.specs.Polygon.{pen}
@@ -23,6 +22,7 @@ use Rattle.checks.specs.Checks.{verdict}
 use Rattle.checks.specs.Answer.{Result}
 use Rattle.packed.specs.Packed.{packedLength, packedCall}
 use Rattle.pbm.specs.Pbm.{header}
+use Rattle.pbm.specs.Theorems.{FileRefuses}
 use Rattle.drawing.specs.declared.Tabled.{Tabled}
 use Rattle.drawing.specs.declared.StrokeVerdict.{StrokeVerdict}
 use Rattle.drawing.specs.declared.StrokeVerdict.the-variants.{AllTaken, Stroke}
@@ -38,66 +38,65 @@ pub record FirstBadSetting (l : List ℕ) (number place : ℕ) : Type 0 where
   pub exactly : (NoNumber (10 + place) × (number ≡ 6)) ⊎ (¬ NoNumber (10 + place) × (BadSetting (settingAt l place) × (number ≡ 1)))
 
 -- "only defining and removing change it. Statements speak of tables so made"; 0 says that every setting stands in the table, the first as aperture 10
-pub record Made (l : List ℕ) (r : Tabled) : Type 0 where
+pub record MadeTable (l : List ℕ) (r : Tabled) : Type 0 where
   pub reachable : Reachable (r .table)
   pub holds : r .refusal ≡ 0 → (i : ℕ) → i < settingCount l → Holds (r .table) (10 + i) (settingAt l i)
   pub refused : ¬ (r .refusal ≡ 0) → FirstBadSetting l (r .refusal) (r .place)
   pub none : ¬ (r .refusal ≡ 0) → r .table ≡ empty
 
 abbrev pub TableMade : Type 0
-TableMade = (l : List ℕ) → Made l (tableOf l)
+TableMade = (l : List ℕ) → MadeTable l (tableOf l)
 
 -- ---- the refusals
 -- the row call of stroke k, asked for row 0, with room for the row; what such a call refuses, PackedRefuses (demands) says
 abbrev pub strokeCall : Drawing → ℕ → ℕ → ℕ → Result ℕ
 strokeCall d columns rows k = packedCall (d .table) (getD (d .apertures) k 0) (pathOf (d .starts) (d .entries) k) columns rows 0 (replicate (packedLength columns) 0)
 
-abbrev pub Takes : Drawing → ℕ → ℕ → ℕ → Type 0
-Takes d columns rows k = strokeCall d columns rows k .answer .refusal ≡ 0
+abbrev pub TakesStroke : Drawing → ℕ → ℕ → ℕ → Type 0
+TakesStroke d columns rows k = strokeCall d columns rows k .answer .refusal ≡ 0
 
 abbrev pub TakesAll : Drawing → ℕ → ℕ → Type 0
-TakesAll d columns rows = (k : ℕ) → k < length (d .apertures) → Takes d columns rows k
+TakesAll d columns rows = (k : ℕ) → k < length (d .apertures) → TakesStroke d columns rows k
 
 -- stroke k is the first that is refused
-pub record First (d : Drawing) (columns rows k : ℕ) : Type 0 where
+pub record FirstStroke (d : Drawing) (columns rows k : ℕ) : Type 0 where
   pub one : k < length (d .apertures)
-  pub refused : ¬ Takes d columns rows k
-  pub earlier : (i : ℕ) → i < k → Takes d columns rows i
+  pub refused : ¬ TakesStroke d columns rows k
+  pub earlier : (i : ℕ) → i < k → TakesStroke d columns rows i
 
 -- which stroke is told: the first that is refused, with the number and the place of its row call
-pub data Told (d : Drawing) (columns rows : ℕ) : StrokeVerdict → Type 0 where
-  all : TakesAll d columns rows → Told d columns rows AllTaken
-  one : (k : ℕ) → First d columns rows k →
-      Told d columns rows (Stroke k (strokeCall d columns rows k .answer .refusal) (strokeCall d columns rows k .answer .place))
+pub data StrokeTold (d : Drawing) (columns rows : ℕ) : StrokeVerdict → Type 0 where
+  all : TakesAll d columns rows → StrokeTold d columns rows AllTaken
+  one : (k : ℕ) → FirstStroke d columns rows k →
+      StrokeTold d columns rows (Stroke k (strokeCall d columns rows k .answer .refusal) (strokeCall d columns rows k .answer .place))
 
 abbrev pub StrokesTold : Type 0
-StrokesTold = (d : Drawing) (columns rows : ℕ) → Told d columns rows (firstRefused d columns rows)
+StrokesTold = (d : Drawing) (columns rows : ℕ) → StrokeTold d columns rows (firstRefused d columns rows)
 
 -- a film is answered as the row call of the first stroke that is refused; where all are taken 4 and 7 are left, for the raster and for the room. `needed` is the
 -- film's length. "with 0 runs, and nothing lent is changed"
 pub record FilmSays (d : Drawing) (columns rows needed : ℕ) (before : List ℕ) (r : Result ℕ) : Type 0 where
-  pub either : ((k : ℕ) × First d columns rows k) ⊎ TakesAll d columns rows
-  pub stroke : (k : ℕ) → First d columns rows k → r .answer ≡ strokeCall d columns rows k .answer
-  pub film : TakesAll d columns rows → (n : ℕ) → (r .answer .refusal ≡ n) ↔ (4 when BadRaster columns rows else 7 when NoRoom needed (length before) else done) n
-  pub nowhere : TakesAll d columns rows → r .answer .place ≡ 0
+  pub either : ((k : ℕ) × FirstStroke d columns rows k) ⊎ TakesAll d columns rows
+  pub stroke : (k : ℕ) → FirstStroke d columns rows k → r .answer ≡ strokeCall d columns rows k .answer
+  pub file : TakesAll d columns rows → FileRefuses columns rows needed before r
   pub none : ¬ (r .answer .refusal ≡ 0) → r .answer .count ≡ 0
   pub kept : ¬ (r .answer .refusal ≡ 0) → r .list ≡ before
 
 -- "A packed row fills ceil(columns/8) bytes": so many hold the columns, and one less would not
-pub record Width (columns width : ℕ) : Type 0 where
+pub record RowWidth (columns width : ℕ) : Type 0 where
   pub enough : columns ≤ 8 * width
   pub least : 8 * width < columns + 8
 
 abbrev pub FilmRefuses : Type 0
 FilmRefuses =
-    (d : Drawing) (columns rows width : ℕ) → Width columns width → (b : List ℕ) →
+    (d : Drawing) (columns rows width : ℕ) → RowWidth columns width → (b : List ℕ) →
     FilmSays d columns rows (length (header columns rows) + rows * width) b (filmPut d columns rows b)
 
 -- ---- the film
 -- a film that was put: the table was made by defining and removing, and the answer is 0
-pub record Done (d : Drawing) (columns rows width : ℕ) (b : List ℕ) : Type 0 where
+pub record FilmDone (d : Drawing) (columns rows width : ℕ) (b : List ℕ) : Type 0 where
   pub reachable : Reachable (d .table)
-  pub wide : Width columns width
+  pub wide : RowWidth columns width
   pub answer : filmPut d columns rows b .answer .refusal ≡ 0
 
 -- the setting of stroke k's aperture
@@ -110,7 +109,7 @@ pub record DrawableFilm (d : Drawing) (columns rows : ℕ) : Type 0 where
   pub passes : (k j : ℕ) → k < length (d .apertures) → j < rows → verdict (pathOf (d .starts) (d .entries) k) columns rows j ≡ Passed
 
 abbrev pub FilmTaken : Type 0
-FilmTaken = (d : Drawing) (columns rows width : ℕ) (b : List ℕ) → Done d columns rows width b → DrawableFilm d columns rows
+FilmTaken = (d : Drawing) (columns rows width : ℕ) (b : List ℕ) → FilmDone d columns rows width b → DrawableFilm d columns rows
 
 -- some stroke, with the pen of its aperture's setting, makes pixel (i, j) black, by existence
 abbrev pub StrokeBlack : Drawing → ℕ → ℕ → Type 0
@@ -124,7 +123,7 @@ BitBlack d columns bytes at i j = (getD bytes (at + i / 8) 0 / 2 ^ (7 - i % 8) %
 -- a row by itself
 abbrev pub FilmRow : Type 0
 FilmRow =
-    (d : Drawing) (columns rows width : ℕ) (b : List ℕ) → Done d columns rows width b → (i j : ℕ) → i < 8 * width → j < rows →
+    (d : Drawing) (columns rows width : ℕ) (b : List ℕ) → FilmDone d columns rows width b → (i j : ℕ) → i < 8 * width → j < rows →
     BitBlack d columns (rowOf d columns rows width j) 0 i j
 
 -- a header and then rows of so many bytes. "The top row comes first": above row j there are rows - 1 - j
@@ -141,4 +140,4 @@ pub record FilmGiven (d : Drawing) (columns rows width : ℕ) (before : List ℕ
   pub rest : drop (r .answer .count) (r .list) ≡ drop (r .answer .count) before
 
 abbrev pub FilmBit : Type 0
-FilmBit = (d : Drawing) (columns rows width : ℕ) (b : List ℕ) → Done d columns rows width b → FilmGiven d columns rows width b (filmPut d columns rows b)
+FilmBit = (d : Drawing) (columns rows width : ℕ) (b : List ℕ) → FilmDone d columns rows width b → FilmGiven d columns rows width b (filmPut d columns rows b)

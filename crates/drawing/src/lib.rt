@@ -12,7 +12,7 @@ use strokes::stroke_check;
 ghost use mathlib.Core.Path.{_≡_};
 ghost use lib.ListN.{getD};
 ghost use Rattle.drawing.specs.Settings.{tableOf};
-ghost use Rattle.drawing.specs.Strokes.{firstRefused, filmVerdict};
+ghost use Rattle.drawing.specs.Strokes.{drawingOf, firstRefused, filmVerdict};
 ghost use Rattle.drawing.specs.Film.{filmPut};
 
 mod film;
@@ -92,7 +92,7 @@ pub fn first_refused(
     rows: u64,
 ) -> StrokeVerdict
     ensures { λ r. ⌜ r
-        ≡ firstRefused (record { table = table; apertures = now (apertures .entry); starts = now (starts .entry); entries = now (entries .entry) }) columns rows ⌝ }
+        ≡ firstRefused (drawingOf table (now (apertures .entry)) (now (starts .entry)) (now (entries .entry))) columns rows ⌝ }
 {
     let mut k = 0;
     while k < apertures.len() {
@@ -118,7 +118,7 @@ fn film_check(
     rows: u64,
 ) -> Verdict
     ensures { λ r. ⌜ r
-        ≡ filmVerdict (record { table = table; apertures = now (apertures .entry); starts = now (starts .entry); entries = now (entries .entry) }) columns rows ⌝ }
+        ≡ filmVerdict (drawingOf table (now (apertures .entry)) (now (starts .entry)) (now (entries .entry))) columns rows ⌝ }
 {
     let of_strokes = first_refused(table, apertures, starts, entries, columns, rows);
     let StrokeVerdict::Stroke(k, number, place) = of_strokes else {
@@ -140,7 +140,7 @@ pub fn put_film(
     out: &mut [u8],
 ) -> Answer
     ensures { λ r. ⌜ record { answer = r; list = now (out .exit) }
-        ≡ filmPut (record { table = table; apertures = now (apertures .entry); starts = now (starts .entry); entries = now (entries .entry) }) columns rows (now (out .entry)) ⌝ }
+        ≡ filmPut (drawingOf table (now (apertures .entry)) (now (starts .entry)) (now (entries .entry))) columns rows (now (out .entry)) ⌝ }
 {
     let checked = film_check(table, apertures, starts, entries, columns, rows);
     let Verdict::Passed = checked else {

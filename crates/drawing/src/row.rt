@@ -3,7 +3,8 @@ use crate::Sheet;
 use crate::strokes::span_of;
 ghost use mathlib.Core.Path.{_≡_};
 ghost use lib.ListN.{length, replicate};
-ghost use Rattle.drawing.specs.Film.{laidOver, added, drawingOf, rowOf};
+ghost use Rattle.drawing.specs.Strokes.{drawingOf};
+ghost use Rattle.drawing.specs.Film.{laidOver, added, rowOf};
 
 fn clear(b: &mut [u8])
     ensures { λ _. ⌜ now (b .exit) ≡ replicate (length (now (b .entry))) 0 ⌝ }
@@ -51,7 +52,7 @@ pub fn draw_row(
     requires { ⌜ now part ≡ replicate (length (now bytes)) 0 ⌝ }
     ensures zeros { λ _. ⌜ now (part .exit) ≡ replicate (length (now (bytes .entry))) 0 ⌝ }
     ensures drawn { λ _. ⌜ now (bytes .exit)
-        ≡ rowOf (drawingOf sheet (now (apertures .entry)) (now (starts .entry)) (now (entries .entry))) (sheet .columns) (sheet .rows) (length (now (bytes .entry))) row ⌝ }
+        ≡ rowOf (drawingOf (sheet .table) (now (apertures .entry)) (now (starts .entry)) (now (entries .entry))) (sheet .columns) (sheet .rows) (length (now (bytes .entry))) row ⌝ }
 {
     clear(bytes);
     let mut k = 0;

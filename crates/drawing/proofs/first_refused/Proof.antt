@@ -7,7 +7,7 @@ use mathlib.Core.List.{List}
 use lib.ListN.{length, getD}
 use lib.IntN.{ℤ}
 use denote.Ref.{now}
-use Rattle.drawing.specs.Strokes.{Drawing, rowZeroVerdict, strokeVerdict, firstFrom, firstRefused}
+use Rattle.drawing.specs.Strokes.{Drawing, drawingOf, rowZeroVerdict, strokeVerdict, firstFrom, firstRefused}
 use Rattle.drawing.proofs.Taken.{no-stroke, stroke-taken, stroke-refused}
 use borrow.Author.Needs.{needs}
 use Rattle.drawing.proofs.first_refused.Statement.{statement}
@@ -19,7 +19,7 @@ record Left (d : Drawing) (columns rows k : ℕ) : Type 0 where
   same : firstFrom d columns rows k (length (d .apertures) - k) ≡ firstRefused d columns rows
 
 abbrev Inv-loop : tie.InvT-loop
-Inv-loop table apertures starts entries columns rows k₀ k = Left (record { table = table; apertures = apertures; starts = starts; entries = entries }) columns rows k
+Inv-loop table apertures starts entries columns rows k₀ k = Left (drawingOf table apertures starts entries) columns rows k
 
 abbrev μ-loop : tie.MeasureT-loop
 μ-loop table apertures starts entries columns rows k₀ k = length apertures - k
@@ -30,7 +30,7 @@ abbrev start : tie.At-loop Inv-loop μ-loop → tie.Start Inv-loop μ-loop
 start c = c .before .before .before
 
 abbrev drawing : tie.At-loop Inv-loop μ-loop → Drawing
-drawing c = let a = start c .args in record { table = a .table; apertures = now (a .apertures); starts = now (a .starts); entries = now (a .entries) }
+drawing c = let a = start c .args in drawingOf (a .table) (now (a .apertures)) (now (a .starts)) (now (a .entries))
 
 -- the way back from where the stroke has been checked
 abbrev spanned : tie.After-stroke-check Inv-loop μ-loop → tie.After-span-of Inv-loop μ-loop
@@ -59,7 +59,7 @@ here c = let t = c .before in let a = start t .args in ap (firstFrom (drawing t)
 loop-holds : tie.Need-loop-holds Inv-loop μ-loop
 loop-holds c =
     let a = c .before .before .args in
-    let d : Drawing = record { table = a .table; apertures = now (a .apertures); starts = now (a .starts); entries = now (a .entries) } in
+    let d : Drawing = drawingOf (a .table) (now (a .apertures)) (now (a .starts)) (now (a .entries)) in
     let n : length (d .apertures) - 0 ≡ length (d .apertures) = omega arith in
     record { few = omega arith; same = ap (firstFrom d (a .columns) (a .rows) 0) n }
 

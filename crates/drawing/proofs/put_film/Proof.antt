@@ -12,7 +12,7 @@ use Rattle.checks.specs.Answer.{Offer, done}
 use Rattle.checks.proofs.Verdicts.{room-passed}
 use Rattle.checks.proofs.Given.{refused-here, passed-here, no-room, room-left}
 use Rattle.pbm.specs.Pbm.{fileOffer}
-use Rattle.drawing.specs.Strokes.{Drawing, strokesVerdict, firstRefused}
+use Rattle.drawing.specs.Strokes.{Drawing, drawingOf, strokesVerdict, firstRefused}
 use Rattle.drawing.specs.Film.{film, Raster}
 use Rattle.drawing.proofs.Put.{film-long, raster-passed}
 use Rattle.drawing.proofs.put_film.Statement.{statement}
@@ -24,7 +24,7 @@ abbrev start : tie.After-film-check → tie.Start
 start c = c .before .before .before .before
 
 abbrev drawing : tie.Start → Drawing
-drawing s = record { table = s .args .table; apertures = now (s .args .apertures); starts = now (s .args .starts); entries = now (s .args .entries) }
+drawing s = drawingOf (s .args .table) (now (s .args .apertures)) (now (s .args .starts)) (now (s .args .entries))
 
 abbrev whole : tie.Start → List ℕ
 whole s = film (drawing s) (s .args .columns) (s .args .rows)

@@ -10,8 +10,8 @@ use borrow.Author.Needs.{needs}
 use Rattle.packed.specs.Packed.{packedLength}
 use Rattle.checks.specs.Answer.{Result, done}
 use Rattle.pbm.specs.Pbm.{header, topFirst, started}
-use Rattle.drawing.specs.Strokes.{Drawing}
-use Rattle.drawing.specs.Film.{drawingOf, rowOf}
+use Rattle.drawing.specs.Strokes.{Drawing, drawingOf}
+use Rattle.drawing.specs.Film.{rowOf}
 use Rattle.drawing.proofs.Rows.{replaced}
 use Rattle.drawing.proofs.Put.{header-put-whole, zeros}
 use Rattle.drawing.proofs.film.put_file.Statement.{statement}
@@ -104,7 +104,7 @@ returns c =
     let h = headed (drawn .before .before) in
     let s = start h in
     let a = s .args in
-    let d : Drawing = drawingOf (a .sheet) (now (a .apertures)) (now (a .starts)) (now (a .entries)) in
+    let d : Drawing = drawingOf (a .sheet .table) (now (a .apertures)) (now (a .starts)) (now (a .entries)) in
     replaced _ _ (buffer h) (h .put-header .result .count) (front h)
     ∙ ap (λ (l : List ℕ). head s ++ l)
     (drawn .put-rows .ensures ∙ ap (λ (n : ℕ). topFirst (a .sheet .rows) (rowOf d (a .sheet .columns) (a .sheet .rows) n)) (part-packed (h .before .before)))

@@ -7,8 +7,8 @@ use lib.ListN.{length, getD, replicate, length-replicate}
 use lib.IntN.{ℤ}
 use denote.Ref.{now}
 use borrow.Author.Needs.{needs}
-use Rattle.drawing.specs.Strokes.{Drawing, pathOf}
-use Rattle.drawing.specs.Film.{drawingOf, added, rowUpTo}
+use Rattle.drawing.specs.Strokes.{Drawing, drawingOf, pathOf}
+use Rattle.drawing.specs.Film.{added, rowUpTo}
 use Rattle.drawing.proofs.Rows.{row-none, row-more}
 use Rattle.drawing.proofs.row.draw_row.Statement.{statement}
 use Rattle.drawing.proofs.row.draw_row.Tie as tie
@@ -25,7 +25,7 @@ record Laid (d : Drawing) (columns rows row width : ℕ) (part bytes : List ℕ)
 
 abbrev Inv-loop : tie.InvT-loop
 Inv-loop sheet apertures starts entries row part₀ bytes₀ k₀ part bytes k =
-    Laid (drawingOf sheet apertures starts entries) (sheet .columns) (sheet .rows) row (length bytes₀) part bytes k
+    Laid (drawingOf (sheet .table) apertures starts entries) (sheet .columns) (sheet .rows) row (length bytes₀) part bytes k
 
 abbrev μ-loop : tie.MeasureT-loop
 μ-loop sheet apertures starts entries row part₀ bytes₀ k₀ part bytes k = length apertures - k
@@ -40,7 +40,7 @@ width c = length (c .clear .last .0)
 
 -- the drawing that the arguments are
 abbrev drawing : tie.Start Inv-loop μ-loop → Drawing
-drawing s = drawingOf (s .args .sheet) (now (s .args .apertures)) (now (s .args .starts)) (now (s .args .entries))
+drawing s = drawingOf (s .args .sheet .table) (now (s .args .apertures)) (now (s .args .starts)) (now (s .args .entries))
 
 -- in a turn: the loop's state, and what was before the loop
 abbrev cleared : tie.At-loop Inv-loop μ-loop → tie.After-clear Inv-loop μ-loop
