@@ -152,17 +152,17 @@ in-order Passed Passed (Refused n p) c d r = refl
 in-order Passed Passed Passed (Refused n p) d r = refl
 in-order Passed Passed Passed Passed d r = refl
 
-settled-number : {A : Type 0} (v : Verdict) (o : Offer A) → settled v o .answer .refusal ≡ numberOf v
+pub settled-number : {A : Type 0} (v : Verdict) (o : Offer A) → settled v o .answer .refusal ≡ numberOf v
 settled-number Passed o = refl
 settled-number (Refused n place) o = refl
 
 -- ---- a call
 -- a refusal gives nothing and keeps what was lent
-settled-none : {A : Type 0} (v : Verdict) (o : Offer A) → ¬ (settled v o .answer .refusal ≡ 0) → (settled v o .answer .count ≡ 0) × (settled v o .list ≡ o .before)
+pub settled-none : {A : Type 0} (v : Verdict) (o : Offer A) → ¬ (settled v o .answer .refusal ≡ 0) → (settled v o .answer .count ≡ 0) × (settled v o .list ≡ o .before)
 settled-none Passed o h = absurd (h refl)
 settled-none (Refused n place) o h = (refl, refl)
 
-settled-place : {A : Type 0} (v : Verdict) (o : Offer A) → settled v o .answer .place ≡ placeOf v
+pub settled-place : {A : Type 0} (v : Verdict) (o : Offer A) → settled v o .answer .place ≡ placeOf v
 settled-place Passed o = refl
 settled-place (Refused n place) o = refl
 

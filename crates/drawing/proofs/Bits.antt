@@ -1,14 +1,14 @@
 -- Each bit of a film, by its place: the place in the file, the row there, the bit of the packed row, and the stroke that makes it black.
 use Prim.Native.Nat.{ℕ, zero, suc, _+_, _-_, _*_, _/_, _%_, _^_, _≤_, _<_}
 use native.Mathlib.Omega.{arith}
-use mathlib.Core.Path.{_≡_, refl, sym, ap, _∙_, subst}
+use mathlib.Core.Path.{_≡_, refl, sym, ap, ap₂, _∙_, subst}
 use mathlib.Core.Logic.{_↔_, _⊎_, inl, inr}
 use mathlib.Core.Bool.{Bool, true, false, cond, _&&_, _||_}
 use mathlib.Core.List.{List, [], _∷_, _++_}
 use borrow.Author.Tests.{ltb-true, ltb-false, lt-ltb}
 use lib.Dec.{ltb}
-use lib.ListN.{length, getD}
-use lib.Seq.{take-at, getD-append-add}
+use lib.ListN.{length, getD, take, drop}
+use lib.Seq.{take-at, drop-at, getD-append-add}
 use lib.IntN.{pos}
 use Rattle.integers.proofs.Tests.{clash}
 use Rattle.pen.specs.Polygon.{pen}
@@ -21,10 +21,12 @@ use Rattle.packed.specs.Packed.{packed, packedLength}
 use Rattle.packed.proofs.PackedRow.{packed-length, packed-bit, packed-small}
 use Rattle.pbm.specs.Pbm.{decimal, header, topFirst}
 use Rattle.pbm.proofs.Theorems.{decimal-reads, top-first}
-use Rattle.drawing.specs.Film.{Drawing, pathOf, rowOf, film}
-use Rattle.drawing.specs.Theorems.{anyBelow, DrawableFilm, StrokeBlack, FilmBits, FilmBit}
+use Rattle.drawing.specs.Strokes.{Drawing, pathOf}
+use Rattle.drawing.specs.Film.{rowOf, film, filmPut}
+use Rattle.drawing.specs.Theorems.{RowWidth, settingOf, DrawableFilm, StrokeBlack, BitBlack, FilmRow, FilmBits, FilmBit}
 use Rattle.drawing.proofs.Put.{film-long}
-use Rattle.drawing.proofs.Packed.{film-row}
+use Rattle.drawing.proofs.Packed.{anyBelow, row-packed}
+use Rattle.drawing.proofs.Drawable.{film-taken, film-gave}
 
 -- ---- bytes
 -- every number of the list is a byte, and so is what is read past its end
@@ -106,21 +108,21 @@ bit-set false u = ((λ e. absurd (omega (arith, e))), λ h. absurd (clash (h .0)
 module _ (d : Drawing) (columns rows : ℕ) (s : DrawableFilm d columns rows) where
   -- the row's test: some stroke blackens the column
   abbrev black : ℕ → ℕ → Bool
-  black j x = anyBelow (λ k. blackAt (pen (s .setting k)) (pathPoints (pathOf (d .starts) (d .entries) k)) (pos j) (pos x)) (length (d .apertures))
+  black j x = anyBelow (λ k. blackAt (pen (settingOf d k)) (pathPoints (pathOf (d .starts) (d .entries) k)) (pos j) (pos x)) (length (d .apertures))
 
   row-is : (j : ℕ) → j < rows → rowOf d columns rows (packedLength columns) j ≡ packed (black j) columns
-  row-is j h = film-row d columns rows j (record { setting = s .setting; holds = s .holds; passes = λ k l. s .passes k j l h })
+  row-is j h = row-packed d columns rows s j h
 
-  stroke-black : (i j : ℕ) → (black j i ≡ true) ↔ StrokeBlack d (s .setting) i j
+  stroke-black : (i j : ℕ) → (black j i ≡ true) ↔ StrokeBlack d i j
   stroke-black i j = (
     (λ e. let w = found _ (length (d .apertures)) e in (w .0, w .1, by (w .0) (w .1) .0 (w .2))),
     (λ w. there _ (length (d .apertures)) (w .0) (w .1) (by (w .0) (w .1) .1 (w .2))),
   )
     where
       by : (k : ℕ) → k < length (d .apertures) →
-          (blackAt (pen (s .setting k)) (pathPoints (pathOf (d .starts) (d .entries) k)) (pos j) (pos i) ≡ true)
-          ↔ BlackPath (pen (s .setting k)) (pathPoints (pathOf (d .starts) (d .entries) k)) (centre (pos i) (pos j))
-      by k l = black-path (pen (s .setting k)) _ _ (pen-is-pen (s .setting k) (s .holds k l .taken)) (pathPoints (pathOf (d .starts) (d .entries) k)) (pos i) (pos j)
+          (blackAt (pen (settingOf d k)) (pathPoints (pathOf (d .starts) (d .entries) k)) (pos j) (pos i) ≡ true)
+          ↔ BlackPath (pen (settingOf d k)) (pathPoints (pathOf (d .starts) (d .entries) k)) (centre (pos i) (pos j))
+      by k l = black-path (pen (settingOf d k)) _ _ (pen-is-pen (settingOf d k) (s .holds k l .taken)) (pathPoints (pathOf (d .starts) (d .entries) k)) (pos i) (pos j)
 
   -- the row's bytes stand where TopFirst says, behind the header
   row-long : (j : ℕ) → j < rows → length (rowOf d columns rows (packedLength columns) j) ≡ packedLength columns
@@ -139,36 +141,51 @@ module _ (d : Drawing) (columns rows : ℕ) (s : DrawableFilm d columns rows) wh
   film-small = small-append (header columns rows) (topFirst rows (rowOf d columns rows (packedLength columns))) (small-header columns rows)
       (small-rows rows (rowOf d columns rows (packedLength columns)) (λ j h n. rw (row-is j h) (packed-small (black j) columns n)))
 
-  -- the bit of column i of row j
-  bit-is : (i j : ℕ) → i < 8 * packedLength columns → j < rows →
-      getD (film d columns rows) (length (header columns rows) + (rows - 1 - j) * packedLength columns + i / 8) 0 / 2 ^ (7 - i % 8) % 2
-      ≡ cond (ltb i columns && black j i) 1 0
-  bit-is i j h l =
-      let e : 8 * (i / 8) + i % 8 ≡ i = omega arith in
-      ap (λ (b : ℕ). b / 2 ^ (7 - i % 8) % 2) (film-byte j (i / 8) l (omega arith))
+  -- the bit of column i, wherever the row's bytes stand
+  bit-black : (bytes : List ℕ) (at i j : ℕ) → getD bytes (at + i / 8) 0 ≡ getD (packed (black j) columns) (i / 8) 0 → BitBlack d columns bytes at i j
+  bit-black bytes at i j h =
+      let same : 8 * (i / 8) + i % 8 ≡ i = omega arith in
+      let e : getD bytes (at + i / 8) 0 / 2 ^ (7 - i % 8) % 2 ≡ cond (ltb i columns && black j i) 1 0 =
+      ap (λ (b : ℕ). b / 2 ^ (7 - i % 8) % 2) h
       ∙ packed-bit (black j) columns (i / 8) (i % 8) (omega arith)
-      ∙ ap (λ (x : ℕ). cond (ltb x columns && black j x) 1 0) e
-
-  bit-black : (i j : ℕ) → i < 8 * packedLength columns → j < rows →
-      (getD (film d columns rows) (length (header columns rows) + (rows - 1 - j) * packedLength columns + i / 8) 0 / 2 ^ (7 - i % 8) % 2 ≡ 1)
-      ↔ ((i < columns) × StrokeBlack d (s .setting) i j)
-  bit-black i j h l =
-      let e = bit-is i j h l in
+      ∙ ap (λ (x : ℕ). cond (ltb x columns && black j x) 1 0) same in
       let q = stroke-black i j in (
         (λ x. let y = bit-set (ltb i columns) (black j i) .0 (sym e ∙ x) in (ltb-true i columns (y .0), q .0 (y .1))),
         λ x. e ∙ bit-set (ltb i columns) (black j i) .1 (lt-ltb i columns (x .0), q .1 (x .1)),
       )
 
-  film-bits : FilmBits d columns rows (packedLength columns) (s .setting) (film d columns rows)
+  row-bit : (i j : ℕ) → j < rows → BitBlack d columns (rowOf d columns rows (packedLength columns) j) 0 i j
+  row-bit i j h =
+      let at : 0 + i / 8 ≡ i / 8 = omega arith in
+      bit-black (rowOf d columns rows (packedLength columns) j) 0 i j (ap₂ (λ (l : List ℕ) (n : ℕ). getD l n 0) (row-is j h) at)
+
+  film-bits : FilmBits d columns rows (packedLength columns) (film d columns rows)
   film-bits = record {
     size = film-long d columns rows;
     small = λ n h. film-small n;
     head = take-at (header columns rows) (topFirst rows (rowOf d columns rows (packedLength columns))) (length (header columns rows)) refl;
-    bit = bit-black;
+    bit = λ i j h l. bit-black (film d columns rows) _ i j (film-byte j (i / 8) l (omega arith));
   }
 
 -- the least number of bytes that hold the columns is the definition's
+width-is : {columns width : ℕ} → RowWidth columns width → packedLength columns ≡ width
+width-is w = omega (arith, w .enough, w .least)
+
+pub film-row : FilmRow
+film-row d columns rows width b s i j h l =
+    subst (λ (w : ℕ). BitBlack d columns (rowOf d columns rows w j) 0 i j) (width-is (s .wide)) (row-bit d columns rows (film-taken d columns rows width b s) i j l)
+
+-- ---- the buffer at exit
 pub film-bit : FilmBit
-film-bit d columns rows width h k s =
-    let e : packedLength columns ≡ width = omega arith in
-    subst (λ (w : ℕ). FilmBits d columns rows w (s .setting) (film d columns rows)) e (film-bits d columns rows s)
+film-bit d columns rows width b s =
+    let g = film-gave d columns rows width b s in
+    let r = filmPut d columns rows b in
+    let f = film d columns rows in
+    let n = width-is (s .wide) in
+    let bits = film-bits d columns rows (film-taken d columns rows width b s) in
+    let front : f ≡ take (r .answer .count) (r .list) = sym (ap₂ (λ (k : ℕ) (l : List ℕ). take k l) (g .count) (g .left) ∙ take-at f (drop (length f) b) (length f) refl) in
+    record {
+      film = subst (FilmBits d columns rows width) front (subst (λ (w : ℕ). FilmBits d columns rows w f) n bits);
+      count = g .count ∙ film-long d columns rows ∙ ap (λ (w : ℕ). length (header columns rows) + rows * w) n;
+      rest = ap₂ (λ (k : ℕ) (l : List ℕ). drop k l) (g .count) (g .left) ∙ drop-at f (drop (length f) b) (length f) refl ∙ ap (λ (k : ℕ). drop k b) (sym (g .count));
+    }

@@ -1,9 +1,9 @@
 -- Packed rows laid over each other are the packed row of what any of them has black.
-use Prim.Native.Nat.{ℕ, zero, suc, _+_, _*_, _/_, _%_, _-_, _≤_, _<_, max}
+use Prim.Native.Nat.{ℕ, zero, suc, _+_, _*_, _/_, _%_, _≤_, _<_, max}
 use native.Mathlib.Omega.{arith}
 use mathlib.Core.Path.{_≡_, refl, sym, ap, _∙_}
 use mathlib.Core.Bool.{Bool, true, false, cond, _&&_, _||_}
-use mathlib.Core.List.{List, [], _∷_, _++_, append-nil}
+use mathlib.Core.List.{List, _++_, append-nil}
 use lib.Bits.{bitOr, or-step}
 use lib.Dec.{leb, ltb}
 use lib.ListN.{length, getD, replicate, length-replicate, drop-of-length-le}
@@ -19,10 +19,12 @@ use Rattle.checks.specs.Checks.{verdict}
 use Rattle.checks.specs.Answer.{Result}
 use Rattle.stroke.specs.Sweep.{pathPoints}
 use Rattle.packed.specs.Packed.{bitsFrom, bytesFrom, packed, packedLength, packResult, packedCall}
+use Rattle.packed.proofs.PackedRow.{packed-length}
 use Rattle.packed.proofs.Stored.{packed-call-is}
 use Rattle.aperture.specs.Reachable.{Holds}
-use Rattle.drawing.specs.Film.{Drawing, laidOver, added, pathOf, rowUpTo}
-use Rattle.drawing.specs.Theorems.{anyBelow, Drawable, FilmRow}
+use Rattle.drawing.specs.Strokes.{Drawing, pathOf}
+use Rattle.drawing.specs.Film.{laidOver, added, rowUpTo, rowOf}
+use Rattle.drawing.specs.Theorems.{settingOf, DrawableFilm}
 
 -- one bit more at the end of two numbers
 halves : (a : ℕ) (x : Bool) → ((2 * a + cond x 1 0) / 2 ≡ a) × ((2 * a + cond x 1 0) % 2 ≡ cond x 1 0)
@@ -89,11 +91,6 @@ filled cs p columns rows j e =
     let k : length zeros ≤ n = omega arith in
     rw (e, fits, packResult) (ap (λ (r : List ℕ). packed (λ x. blackAt cs (pathPoints p) (pos j) (pos x)) columns ++ r) (drop-of-length-le zeros k) ∙ append-nil _)
 
-bytes-length : (f : ℕ → Bool) (i n : ℕ) → length (bytesFrom f i n) ≡ n
-unfolding bytesFrom
-bytes-length f i zero = refl
-bytes-length f i (suc n) = ap suc (bytes-length f (i + 8) n)
-
 over-stroke : {t : Table} {n : ℕ} {σ : Setting} → Holds t n σ → (p : List ℤ) (columns rows j : ℕ) → verdict p columns rows j ≡ Passed → (f : ℕ → Bool) →
     added t n p columns rows j (packed f columns) ≡ packed (λ x. f x || blackAt (pen σ) (pathPoints p) (pos j) (pos x)) columns
 over-stroke {t} {n} {σ} h p columns rows j v f =
@@ -102,17 +99,25 @@ over-stroke {t} {n} {σ} h p columns rows j v f =
     let zeros : List ℕ = replicate (packedLength columns) 0 in
     let one : part (packedLength columns) ≡ packed black columns =
     ap (λ (r : Result ℕ). r .list) (packed-call-is h p columns rows j zeros) ∙ filled (pen σ) p columns rows j v in
-    ap (λ (m : ℕ). laidOver (packed f columns) (part m)) (bytes-length (λ x. ltb x columns && f x) 0 (packedLength columns)) ∙ ap (laidOver (packed f columns)) one ∙ over-packed f black columns
+    ap (λ (m : ℕ). laidOver (packed f columns) (part m)) (packed-length f columns) ∙ ap (laidOver (packed f columns)) one ∙ over-packed f black columns
 
-pub film-row : FilmRow
+-- some number below n passes the test
+unfoldable pub anyBelow : (ℕ → Bool) → ℕ → Bool
+anyBelow f zero = false
+anyBelow f (suc n) = anyBelow f n || f n
+
+-- row j of a film whose strokes are all taken is the packed row of the pixels that some stroke makes black
+pub row-packed : (d : Drawing) (columns rows : ℕ) → DrawableFilm d columns rows → (j : ℕ) → j < rows →
+    rowOf d columns rows (packedLength columns) j
+    ≡ packed (λ x. anyBelow (λ k. blackAt (pen (settingOf d k)) (pathPoints (pathOf (d .starts) (d .entries) k)) (pos j) (pos x)) (length (d .apertures))) columns
 unfolding rowUpTo anyBelow
-film-row d columns rows j s = go (length (d .apertures)) (λ k h. h)
+row-packed d columns rows s j r = go (length (d .apertures)) (λ k h. h)
   where
     go : (n : ℕ) → ((k : ℕ) → k < n → k < length (d .apertures)) →
-        rowUpTo d columns rows j (packedLength columns) n ≡ packed (λ x. anyBelow (λ k. blackAt (pen (s .setting k)) (pathPoints (pathOf (d .starts) (d .entries) k)) (pos j) (pos x)) n) columns
+        rowUpTo d columns rows j (packedLength columns) n ≡ packed (λ x. anyBelow (λ k. blackAt (pen (settingOf d k)) (pathPoints (pathOf (d .starts) (d .entries) k)) (pos j) (pos x)) n) columns
     go zero h = sym (packed-clear columns)
     go (suc n) h =
         let l : n < suc n = omega arith in
         let path = pathOf (d .starts) (d .entries) n in
         ap (added (d .table) (getD (d .apertures) n 0) path columns rows j) (go n (λ k m. h k (omega arith)))
-        ∙ over-stroke (s .holds n (h n l)) path columns rows j (s .passes n (h n l)) _
+        ∙ over-stroke (s .holds n (h n l)) path columns rows j (s .passes n j (h n l) r) _

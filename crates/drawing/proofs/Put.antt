@@ -2,29 +2,24 @@
 use Prim.Native.Nat.{ℕ, zero, suc, _+_, _*_, _≤_}
 use native.Mathlib.Nat.{mul-le-mul}
 use native.Mathlib.Omega.{arith}
-use mathlib.Core.Path.{_≡_, refl, sym, ap, _∙_}
-use mathlib.Core.Bool.{Bool, true, false, _&&_}
+use mathlib.Core.Path.{_≡_, refl, ap, _∙_}
 use mathlib.Core.List.{List, _∷_}
-use lib.Dec.{leb}
 use lib.ListN.{length, take, replicate, length-append, length-replicate}
-use borrow.Author.Tests.{leb-true}
-use Rattle.integers.proofs.Tests.{and-both}
-use Rattle.limits.specs.Sizes.{rasterMax, isSize}
-use Rattle.limits.specs.Refusal.{raster, room, unless}
+use borrow.Author.Tests.{le-leb}
+use Rattle.limits.specs.Sizes.{rasterMax}
 use Rattle.limits.specs.declared.Verdict.{Verdict}
-use Rattle.limits.specs.declared.Verdict.the-variants.{Passed, Refused}
+use Rattle.limits.specs.declared.Verdict.the-variants.{Passed}
 use Rattle.limits.proofs.Sizes.{size-iff}
-use Rattle.limits.proofs.Verdicts.{unless-true}
 use Rattle.checks.specs.Checks.{rasterVerdict}
-use Rattle.checks.specs.Answer.{settled, given}
+use Rattle.checks.specs.Answer.{done}
 use Rattle.packed.specs.Packed.{packedLength}
 use Rattle.pbm.specs.Pbm.{decimal, header, topFirst, started, headerPut}
 use Rattle.pbm.proofs.Decimal.{size-few}
-use Rattle.pbm.proofs.Pieces.{header-length}
+use Rattle.pbm.proofs.Pieces.{header-length, raster-sizes}
 use Rattle.pbm.proofs.Theorems.{top-first}
-use Rattle.drawing.specs.Film.{Drawing, rowUpTo, rowOf, film, filmLength, fileOffer, filmPut, Raster}
+use Rattle.drawing.specs.Strokes.{Drawing}
+use Rattle.drawing.specs.Film.{rowUpTo, rowOf, film, filmLength, Raster}
 use Rattle.drawing.proofs.Over.{over-length}
-use Rattle.drawing.proofs.Rows.{put-whole}
 
 -- ---- the length of a film
 row-long : (d : Drawing) (columns rows j width k : ℕ) → length (rowUpTo d columns rows j width k) ≡ width
@@ -50,13 +45,13 @@ rows-most {columns} {rows} s = let w : packedLength columns ≤ 2048 = omega (ar
 
 -- the header that is put into that many bytes
 pub header-put-whole : {columns rows : ℕ} → Raster columns rows → (b : List ℕ) → length (header columns rows) ≤ length b →
-    headerPut columns rows b ≡ record { count = length (header columns rows); buffer = started (header columns rows) b }
-header-put-whole {columns} {rows} s b l = put-whole columns rows b (size-iff columns .1 (s .columns-size)) (size-iff rows .1 (s .rows-size)) l
+    headerPut columns rows b ≡ record { answer = done (length (header columns rows)); list = started (header columns rows) b }
+header-put-whole {columns} {rows} s b l = rw (size-iff columns .1 (s .columns-size), size-iff rows .1 (s .rows-size), le-leb (length (header columns rows)) (length b) l)
 
 -- the check of the raster, where it is passed
 pub raster-passed : (columns rows : ℕ) {v : Verdict} → v ≡ rasterVerdict columns rows → v ≡ Passed → Raster columns rows
 raster-passed columns rows e f =
-    let b = and-both (isSize columns) (isSize rows) (unless-true (isSize columns && isSize rows) raster (sym e ∙ f)) in
+    let b = raster-sizes columns rows e f in
     record { columns-size = size-iff columns .0 (b .0); rows-size = size-iff rows .0 (b .1) }
 
 -- ---- zeros
@@ -64,16 +59,3 @@ pub zeros : (k n : ℕ) → k ≤ n → take {A = ℕ} k (replicate n 0) ≡ rep
 zeros zero n h = refl
 zeros (suc k) zero h = absurd (omega arith)
 zeros (suc k) (suc n) h = ap (λ (l : List ℕ). 0 ∷ l) (zeros k n (omega arith))
-
--- ---- what is answered
--- no more is counted than the buffer holds
-given-most : (v : Verdict) (f b : List ℕ) → given v (fileOffer f b) .answer .count ≤ length b
-given-most (Refused n place) f b = omega arith
-given-most Passed f b = go (leb (length f) (length b)) refl
-  where
-    go : (t : Bool) → leb (length f) (length b) ≡ t → settled (unless t room) (fileOffer f b) .answer .count ≤ length b
-    go true h = leb-true (length f) (length b) h
-    go false h = omega arith
-
-pub count-most : (d : Drawing) (columns rows : ℕ) (b : List ℕ) → filmPut d columns rows b .answer .count ≤ length b
-count-most d columns rows b = given-most (rasterVerdict columns rows) (film d columns rows) b

@@ -1,60 +1,23 @@
--- The table of a drawing, a row of its film and the whole file, one part more at a time.
-use Prim.Native.Nat.{ℕ, zero, suc, _+_, _*_, _-_, _/_, _≤_, _<_, min}
+-- A row of a film and the whole file, one part more at a time.
+use Prim.Native.Nat.{ℕ, zero, suc, _+_, _*_, _-_, _≤_}
 use native.Mathlib.Numerals.{add-one}
 use native.Mathlib.Nat.{suc-mul}
 use native.Mathlib.Omega.{arith}
 use mathlib.Core.Path.{_≡_, refl, sym, ap, _∙_}
-use mathlib.Core.Bool.{Bool, true, false}
 use mathlib.Core.List.{List, [], _∷_, _++_, append-assoc, append-nil}
-use lib.Dec.{leb}
 use lib.ListN.{length, getD, take, drop, replicate, length-append, length-drop, drop-of-length-le}
-use lib.Seq.{take-all, take-at, take-nil, drop-nil, length-take-le, slice}
+use lib.Seq.{take-all, take-at, take-nil, drop-nil, length-take-le}
 use lib.IntN.{ℤ}
-use borrow.Author.Tests.{leb-true, leb-false}
-use Rattle.aperture.specs.Table.{empty, defined}
-use Rattle.limits.specs.Sizes.{apertureMin, isSize}
-use Rattle.pbm.specs.Pbm.{header, topFirst, started, Put, headerPut}
-use Rattle.pbm.proofs.Pieces.{header-fits, header-put}
-use Rattle.drawing.specs.Film.{settingAt, tableUpTo, Drawing, pathOf, added, rowUpTo}
+use Rattle.pbm.specs.Pbm.{topFirst}
+use Rattle.drawing.specs.Strokes.{Drawing, pathOf}
+use Rattle.drawing.specs.Film.{added, rowUpTo}
 
-pub none : (l : List ℕ) → empty ≡ tableUpTo l 0
-unfolding tableUpTo
-none l = refl
-
-pub one-more : (l : List ℕ) (i : ℕ) → defined (tableUpTo l i) (apertureMin + i) (settingAt l i) .table ≡ tableUpTo l (i + 1)
-unfolding tableUpTo
-one-more l i = rw (add-one i)
-
--- a part of a list, with its ends brought into the list
-take-min : (l : List ℤ) (e : ℕ) → take (min e (length l)) l ≡ take e l
-take-min l e = go (leb e (length l)) refl
-  where
-    go : (b : Bool) → leb e (length l) ≡ b → take (min e (length l)) l ≡ take e l
-    go true h = let k : min e (length l) ≡ e = omega (arith, leb-true e (length l) h) in ap (λ (n : ℕ). take n l) k
-    go false h =
-        let k : min e (length l) ≡ length l = omega (arith, leb-false e (length l) h) in
-        ap (λ (n : ℕ). take n l) k ∙ take-all (length l) l (omega arith) ∙ sym (take-all e l (omega (arith, leb-false e (length l) h)))
-
-drop-min : (l : List ℤ) (a n : ℕ) → length l ≡ n → drop (min a n) l ≡ drop a l
-drop-min l a n e = go (leb a n) refl
-  where
-    go : (b : Bool) → leb a n ≡ b → drop (min a n) l ≡ drop a l
-    go true h = let k : min a n ≡ a = omega (arith, leb-true a n h) in ap (λ (m : ℕ). drop m l) k
-    go false h =
-        let k : min a n ≡ n = omega (arith, leb-false a n h) in
-        let past : length l ≤ n = omega arith in
-        let far : length l ≤ a = omega (arith, leb-false a n h) in
-        ap (λ (m : ℕ). drop m l) k ∙ drop-of-length-le l past ∙ sym (drop-of-length-le l far)
-
-drop-of-take : (l : List ℤ) (a e : ℕ) → drop a (take e l) ≡ take (e - a) (drop a l)
+-- a part of a list, taken first or dropped first
+pub drop-of-take : (l : List ℤ) (a e : ℕ) → drop a (take e l) ≡ take (e - a) (drop a l)
 drop-of-take [] a e = ap (drop a) (take-nil e) ∙ drop-nil a ∙ sym (ap (take (e - a)) (drop-nil a) ∙ take-nil (e - a))
 drop-of-take (x ∷ l) zero e = let k : e ≡ e - 0 = omega arith in ap (λ (n : ℕ). take n (x ∷ l)) k
 drop-of-take (x ∷ l) (suc a) zero = let k : 0 ≡ 0 - suc a = omega arith in ap (λ (n : ℕ). take n (drop a l)) k
 drop-of-take (x ∷ l) (suc a) (suc e) = let k : e - a ≡ suc e - suc a = omega arith in drop-of-take l a e ∙ ap (λ (n : ℕ). take n (drop a l)) k
-
-pub brought-in : (l : List ℤ) (a e : ℕ) → take (min e (length l) - min a (min e (length l))) (drop (min a (min e (length l))) l) ≡ slice a e l
-brought-in l a e =
-    sym (drop-of-take l (min a (min e (length l))) (min e (length l))) ∙ drop-min (take (min e (length l)) l) a (min e (length l)) (length-take-le _ l (omega arith)) ∙ ap (drop a) (take-min l e)
 
 -- a row with one stroke more
 pub row-none : (d : Drawing) (columns rows j room : ℕ) → replicate room 0 ≡ rowUpTo d columns rows j room 0
@@ -88,11 +51,6 @@ put-row f out new rest at w (suc r) h k l e =
 pub last-row : (f : ℕ → List ℕ) (out : List ℕ) (at row : ℕ) → row ≡ 0 → length out ≤ at → out ≡ take at out ++ topFirst row f
 unfolding topFirst
 last-row f out at row e h = sym (take-all at out h) ∙ sym (append-nil (take at out)) ∙ ap (λ (r : ℕ). take at out ++ topFirst r f) (sym e)
-
--- a header that fits is put whole
-pub put-whole : (columns rows : ℕ) (b : List ℕ) → isSize columns ≡ true → isSize rows ≡ true → length (header columns rows) ≤ length b →
-    headerPut columns rows b ≡ record { count = length (header columns rows); buffer = started (header columns rows) b }
-put-whole columns rows b h k l = sym (header-put columns rows b (header-fits columns rows b h k l) refl refl)
 
 -- what stands behind the header is all replaced
 pub replaced : (h new last : List ℕ) (at : ℕ) → take at last ≡ h → take at last ++ (new ++ drop (length last - at) (drop at last)) ≡ h ++ new

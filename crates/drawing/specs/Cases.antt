@@ -17,10 +17,15 @@ use Rattle.stroke.specs.Runs.{blackAt}
 use Rattle.stroke.specs.Sweep.{pathPoints}
 use Rattle.packed.specs.Packed.{bitsFrom, bytesFrom, packed}
 use Rattle.pbm.specs.Pbm.{lastDigits, topFirst, file}
-use Rattle.drawing.specs.Film.{Drawing, tableOf, film}
+use Rattle.drawing.specs.Settings.{tableOf}
+use Rattle.drawing.specs.Strokes.{Drawing}
+use Rattle.drawing.specs.Film.{film}
 
 abbrev pub dotSetting : Setting
 dotSetting = record { w = 16; p = 1; q = 1 }
+
+abbrev pub dotSettings : List ℕ
+dotSettings = 16 ∷ 1 ∷ 1 ∷ []
 
 abbrev pub dotPath : List ℤ
 dotPath = pos 32 ∷ pos 16 ∷ []
@@ -37,7 +42,7 @@ dot-file = refl
 
 -- the drawing that has this dot only, with aperture 10; its film is that file (proofs/Dot.antt)
 abbrev pub dotDrawing : Drawing
-dotDrawing = record { table = tableOf (16 ∷ 1 ∷ 1 ∷ []); apertures = 10 ∷ []; starts = 0 ∷ 2 ∷ []; entries = dotPath }
+dotDrawing = record { table = tableOf dotSettings .table; apertures = 10 ∷ []; starts = 0 ∷ 2 ∷ []; entries = dotPath }
 
 abbrev pub DotFilm : Type 0
 DotFilm = film dotDrawing 5 3 ≡ dotBytes

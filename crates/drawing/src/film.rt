@@ -7,7 +7,8 @@ ghost use lib.ListN.{length, replicate};
 ghost use Rattle.limits.specs.Sizes.{Size};
 ghost use Rattle.packed.specs.Packed.{packedLength};
 ghost use Rattle.pbm.specs.Pbm.{topFirst};
-ghost use Rattle.drawing.specs.Film.{drawingOf, rowOf, film, filmLength, Raster};
+ghost use Rattle.drawing.specs.Strokes.{drawingOf};
+ghost use Rattle.drawing.specs.Film.{rowOf, film, filmLength, Raster};
 
 // How many bytes a header and a packed row have at most.
 const HEADER_MAX: usize = 15;
@@ -27,7 +28,7 @@ fn put_rows(
     requires zeros { ⌜ now part ≡ replicate (length (now part)) 0 ⌝ }
     requires room { ⌜ length (now out) ≡ sheet .rows * length (now part) ⌝ }
     ensures { λ _. ⌜ now (out .exit)
-        ≡ topFirst (sheet .rows) (rowOf (drawingOf sheet (now (apertures .entry)) (now (starts .entry)) (now (entries .entry))) (sheet .columns) (sheet .rows) (length (now (part .entry)))) ⌝ }
+        ≡ topFirst (sheet .rows) (rowOf (drawingOf (sheet .table) (now (apertures .entry)) (now (starts .entry)) (now (entries .entry))) (sheet .columns) (sheet .rows) (length (now (part .entry)))) ⌝ }
 {
     let width = part.len();
     let mut at = 0;
@@ -62,18 +63,19 @@ pub fn length_of(columns: u64, rows: u64) -> usize
     ensures { λ r. ⌜ r ≡ filmLength columns rows ⌝ }
 {
     let mut header = [0u8; HEADER_MAX];
-    let at = pbm::put_header(&mut header, columns, rows);
-    at + rows as usize * row_length(columns)
+    let put = pbm::put_header(&mut header, columns, rows);
+    put.count as usize + rows as usize * row_length(columns)
 }
 
 // Fills out with the whole file.
 pub fn put_file(sheet: Sheet, apertures: &[u64], starts: &[usize], entries: &[i32], out: &mut [u8])
     requires raster { ⌜ Raster (sheet .columns) (sheet .rows) ⌝ }
     requires room { ⌜ length (now out) ≡ filmLength (sheet .columns) (sheet .rows) ⌝ }
-    ensures { λ _. ⌜ now (out .exit) ≡ film (drawingOf sheet (now (apertures .entry)) (now (starts .entry)) (now (entries .entry))) (sheet .columns) (sheet .rows) ⌝ }
+    ensures { λ _. ⌜ now (out .exit) ≡ film (drawingOf (sheet .table) (now (apertures .entry)) (now (starts .entry)) (now (entries .entry))) (sheet .columns) (sheet .rows) ⌝ }
 {
     let width = row_length(sheet.columns);
-    let at = pbm::put_header(out, sheet.columns, sheet.rows);
+    let put = pbm::put_header(out, sheet.columns, sheet.rows);
+    let at = put.count as usize;
     let mut part = [0u8; ROW_MAX];
     put_rows(
         sheet,

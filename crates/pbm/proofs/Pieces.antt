@@ -1,15 +1,18 @@
 -- A piece more behind what stands at the start of a buffer.
-use Prim.Native.Nat.{ℕ, _+_, _≤_, _<_}
+use Prim.Native.Nat.{ℕ, _+_}
 use native.Mathlib.Omega.{arith}
 use mathlib.Core.Path.{_≡_, refl, sym, ap, _∙_}
-use mathlib.Core.Bool.{Bool, true, false, _&&_}
+use mathlib.Core.Bool.{true, _&&_}
 use mathlib.Core.List.{List, [], _∷_, _++_}
-use lib.Dec.{leb}
-use borrow.Author.Tests.{le-leb, lt-leb}
 use lib.ListN.{length, drop, length-append}
-use Rattle.integers.proofs.Tests.{false-and, and-false, and-true}
+use Rattle.integers.proofs.Tests.{and-both}
 use Rattle.limits.specs.Sizes.{isSize}
-use Rattle.pbm.specs.Pbm.{headed, started, header, fits, headerPut}
+use Rattle.limits.specs.Refusal.{raster}
+use Rattle.limits.specs.declared.Verdict.{Verdict}
+use Rattle.limits.specs.declared.Verdict.the-variants.{Passed}
+use Rattle.limits.proofs.Verdicts.{unless-true}
+use Rattle.checks.specs.Checks.{rasterVerdict}
+use Rattle.pbm.specs.Pbm.{headed, started}
 use lib.Seq.{paste, take-length, take-at, drop-append-add, drop-drop}
 
 piece : (p s b : List ℕ) (n : ℕ) → length p ≡ n → paste (started p b) n s (length s) ≡ started (p ++ s) b
@@ -54,38 +57,9 @@ five-pieces columns rows b e₁ e₂ e₃ e₄ e₅ =
 pub header-length : (columns rows : List ℕ) → length (headed columns rows) ≡ length columns + length rows + 5
 header-length columns rows = simp length-append (omega arith)
 
-abbrev enough : ℕ → ℕ → List ℕ → Bool
-enough columns rows b = leb (length (header columns rows)) (length b)
-
--- the test fails at the columns, at the rows, at the buffer; it is passed
-pub bad-columns : (columns rows : ℕ) (b : List ℕ) → isSize columns ≡ false → fits columns rows b ≡ false
-bad-columns columns rows b h = sym (false-and _ _ h)
-
-pub bad-rows : (columns rows : ℕ) (b : List ℕ) → isSize rows ≡ false → fits columns rows b ≡ false
-bad-rows columns rows b h = and-false (isSize columns) (isSize rows && enough columns rows b) (sym (false-and _ _ h))
-
-pub header-too-long : (columns rows : ℕ) (b : List ℕ) → length b < length (header columns rows) → fits columns rows b ≡ false
-header-too-long columns rows b h =
-    and-false (isSize columns) (isSize rows && enough columns rows b) (and-false (isSize rows) (enough columns rows b) (lt-leb _ _ h))
-
-pub header-fits : (columns rows : ℕ) (b : List ℕ) →
-    isSize columns ≡ true →
-    isSize rows ≡ true →
-    length (header columns rows) ≤ length b →
-    fits columns rows b ≡ true
-header-fits columns rows b h k l =
-    and-true (isSize columns) (isSize rows && enough columns rows b) h (and-true (isSize rows) (enough columns rows b) k (le-leb _ _ l))
-
--- nothing is put, and the whole header is put
-pub nothing-put : (columns rows : ℕ) (b : List ℕ) → fits columns rows b ≡ false → record { count = 0; buffer = b } ≡ headerPut columns rows b
-nothing-put columns rows b h = rw h
-
-pub header-put : (columns rows : ℕ) (b : List ℕ) {o : List ℕ} {n : ℕ} →
-    fits columns rows b ≡ true →
-    n ≡ length (header columns rows) →
-    o ≡ started (header columns rows) b →
-    record { count = n; buffer = o } ≡ headerPut columns rows b
-header-put columns rows b h k e = rw (h, k, e)
-
 pub same-digits : {w w′ h h′ : List ℕ} (b : List ℕ) → w ≡ w′ → h ≡ h′ → started (headed w h) b ≡ started (headed w′ h′) b
 same-digits {w} {w′} {h} {h′} b p q = ap (λ (l : List ℕ). started (headed l h) b) p ∙ ap (λ (l : List ℕ). started (headed w′ l) b) q
+
+-- the check of the raster, where it is passed
+pub raster-sizes : (columns rows : ℕ) {v : Verdict} → v ≡ rasterVerdict columns rows → v ≡ Passed → (isSize columns ≡ true) × (isSize rows ≡ true)
+raster-sizes columns rows e f = and-both (isSize columns) (isSize rows) (unless-true (isSize columns && isSize rows) raster (sym e ∙ f))

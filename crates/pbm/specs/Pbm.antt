@@ -1,10 +1,11 @@
 -- Document 01, "Cases" and "Units and sizes": a raw PBM file.
 use Prim.Native.Nat.{ℕ, zero, suc, _+_, _/_, _%_}
-use mathlib.Core.Bool.{Bool, true, false, cond, _&&_}
+use mathlib.Core.Bool.{true, false}
 use mathlib.Core.List.{List, [], _∷_, _++_}
-use lib.Dec.{leb, ltb}
+use lib.Dec.{ltb}
 use lib.ListN.{length, drop}
-use Rattle.limits.specs.Sizes.{isSize}
+use Rattle.checks.specs.Checks.{rasterVerdict}
+use Rattle.checks.specs.Answer.{Result, Offer, given}
 
 -- the ASCII code of a digit below 10
 abbrev pub digit : ℕ → ℕ
@@ -40,16 +41,10 @@ file columns rows row = header columns rows ++ topFirst rows row
 abbrev pub started : List ℕ → List ℕ → List ℕ
 started p b = p ++ drop (length p) b
 
--- what is answered, and the buffer at exit
-pub record Put : Type 0 where
-  pub count : ℕ
-  pub buffer : List ℕ
+-- what a call offers that has this file: it stands at the start of the buffer, the rest of which is unchanged
+abbrev pub fileOffer : List ℕ → List ℕ → Offer ℕ
+fileOffer f b = record { count = length f; space = length b; after = started f b; before = b }
 
--- a size outside its limits, and a header longer than the buffer, give 0 and leave the buffer
-abbrev pub fits : ℕ → ℕ → List ℕ → Bool
-fits columns rows b = isSize columns && (isSize rows && leb (length (header columns rows)) (length b))
-
-abbrev pub headerPut : ℕ → ℕ → List ℕ → Put
-headerPut columns rows b = cond (fits columns rows b)
-    (record { count = length (header columns rows); buffer = started (header columns rows) b })
-    (record { count = 0; buffer = b })
+-- a header alone: 4, "raster size outside 1 to 16,384", comes before 7
+abbrev pub headerPut : ℕ → ℕ → List ℕ → Result ℕ
+headerPut columns rows b = given (rasterVerdict columns rows) (fileOffer (header columns rows) b)

@@ -1,10 +1,14 @@
--- What a raw PBM file is, by places and values. The claims are types; proofs/Theorems.antt proves each under its name.
+-- What a raw PBM file is, by places and values, and what a call refuses that puts one. The claims are types; proofs/Theorems.antt and proofs/Refusals.antt prove
+-- each under its name.
 use Prim.Native.Nat.{ℕ, _+_, _-_, _*_, _^_, _≤_, _<_}
 use mathlib.Core.Path.{_≡_}
+use mathlib.Core.Logic.{_↔_}
 use mathlib.Core.List.{List, [], _∷_}
 use lib.ListN.{length, getD, take}
 use lib.Seq.{slice}
-use Rattle.pbm.specs.Pbm.{decimal, header, topFirst}
+use Rattle.limits.specs.Exactly.{_when_else_, done, BadRaster, NoRoom}
+use Rattle.checks.specs.Answer.{Result}
+use Rattle.pbm.specs.Pbm.{decimal, header, topFirst, headerPut}
 
 -- what a list of digits reads as: each counts its value, its ASCII code less 48, times ten for each digit behind it
 abbrev pub readsAs : List ℕ → ℕ
@@ -42,3 +46,14 @@ pub record Downwards (rows width : ℕ) (row : ℕ → List ℕ) (l : List ℕ) 
 
 abbrev pub TopFirst : Type 0
 TopFirst = (rows width : ℕ) (row : ℕ → List ℕ) → ((j : ℕ) → j < rows → length (row j) ≡ width) → Downwards rows width row (topFirst rows row)
+
+-- What a call that puts a file refuses, in the words of the table: "4 | raster size outside 1 to 16,384", and 7 where the file, of `needed` bytes, is longer than
+-- the buffer; "The first that applies is the answer, with 0 runs, and nothing lent is changed"
+pub record FileRefuses (columns rows needed : ℕ) (before : List ℕ) (r : Result ℕ) : Type 0 where
+  pub exactly : (k : ℕ) → (r .answer .refusal ≡ k) ↔ (4 when BadRaster columns rows else 7 when NoRoom needed (length before) else done) k
+  pub nowhere : r .answer .place ≡ 0
+  pub none : ¬ (r .answer .refusal ≡ 0) → r .answer .count ≡ 0
+  pub kept : ¬ (r .answer .refusal ≡ 0) → r .list ≡ before
+
+abbrev pub HeaderRefuses : Type 0
+HeaderRefuses = (columns rows : ℕ) (b : List ℕ) → FileRefuses columns rows (length (header columns rows)) b (headerPut columns rows b)

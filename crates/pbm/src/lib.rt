@@ -1,4 +1,6 @@
 // The raw PBM form of document 01: the header that every film starts with.
+use checks::Answer;
+use limits::Verdict;
 ghost use mathlib.Core.Path.{_≡_};
 ghost use Prim.Native.Nat.{_+_, _≤_};
 ghost use lib.ListN.{length};
@@ -31,21 +33,24 @@ fn put_digits(out: &mut [u8], columns: &[u8], rows: &[u8])
     put(out, n + m + 4, b"\n");
 }
 
-// Puts the header of a film of so many columns and rows at the start of out, and answers its
-// length. Where a size is outside its limits or out is too short: 0, and out is unchanged.
-pub fn put_header(out: &mut [u8], columns: u64, rows: u64) -> usize
-    ensures { λ r. ⌜ record { count = r; buffer = now (out .exit) } ≡ headerPut columns rows (now (out .entry)) ⌝ }
+// Puts the header of a film of so many columns and rows at the start of out, and counts its bytes.
+// Where a size is outside its limits (4) or out is too short (7) it is refused, and out is unchanged.
+pub fn put_header(out: &mut [u8], columns: u64, rows: u64) -> Answer
+    ensures { λ r. ⌜ record { answer = r; list = now (out .exit) } ≡ headerPut columns rows (now (out .entry)) ⌝ }
 {
-    if !limits::is_size(columns) || !limits::is_size(rows) {
-        return 0;
-    }
+    let of_raster = checks::raster_check(columns, rows);
+    let Verdict::Passed = of_raster else {
+        return checks::report(of_raster);
+    };
     let mut columns_digits = [0u8; 20];
     let n = io::decimal(columns, &mut columns_digits);
     let mut rows_digits = [0u8; 20];
     let m = io::decimal(rows, &mut rows_digits);
-    if out.len() < n + m + 5 {
-        return 0;
-    }
+    let length = n + m + 5;
+    let room = checks::room_check(length, out.len());
+    let Verdict::Passed = room else {
+        return checks::report(room);
+    };
     put_digits(out, &columns_digits[..n], &rows_digits[..m]);
-    n + m + 5
+    checks::done(length)
 }

@@ -1,14 +1,16 @@
--- The film of the one dot, as the theorem has it.
+-- The one stroke is taken, and its film is document 01's file.
 use mathlib.Core.Path.{ap, _∙_}
 use mathlib.Core.List.{List, [], _∷_}
 use Prim.Native.Nat.{ℕ}
 use denote.Ref.{now}
+use Rattle.limits.specs.declared.Verdict.{Verdict}
 use Rattle.limits.specs.declared.Verdict.the-variants.{Passed}
 use Rattle.checks.specs.Answer.{given}
-use Rattle.aperture.specs.declared.Table.{Table}
-use Rattle.drawing.specs.Film.{fileOffer, filmPut}
-use Rattle.drawing.specs.Cases.{dotPath}
-use Rattle.drawing.proofs.Dot.{dot-film}
+use Rattle.pbm.specs.Pbm.{fileOffer}
+use Rattle.drawing.specs.declared.Tabled.{Tabled}
+use Rattle.drawing.specs.Film.{film, filmPut}
+use Rattle.drawing.specs.Cases.{dotPath, dotDrawing}
+use Rattle.drawing.proofs.Dot.{dot-taken, dot-film}
 use borrow.Author.Needs.{needs}
 use Rattle.dot.proofs.dot.Statement.{statement}
 use Rattle.dot.proofs.dot.Tie as tie
@@ -18,7 +20,7 @@ abbrev start : tie.After-table → tie.Start
 start c = c .before .before .before
 
 abbrev tabled : tie.After-put-film → tie.After-table
-tabled c = let lent = c .before .before in lent .before .before .before
+tabled c = let lent = c .before .before in let table = lent .before .before .before in table .before
 
 slice-aggregate-table : tie.Need-slice-aggregate-table
 slice-aggregate-table c = search needs
@@ -47,7 +49,8 @@ returns c =
     let made = tabled put in
     let b = now (start made .args .out) in
     put .put-film .ensures
-    ∙ ap (λ (t : Table). filmPut (record { table = t; apertures = 10 ∷ []; starts = 0 ∷ 2 ∷ []; entries = dotPath }) 5 3 b) (made .table .ensures)
+    ∙ ap (λ (t : Tabled). filmPut (record { table = t .table; apertures = 10 ∷ []; starts = 0 ∷ 2 ∷ []; entries = dotPath }) 5 3 b) (made .table .ensures)
+    ∙ ap (λ (v : Verdict). given v (fileOffer (film dotDrawing 5 3) b)) dot-taken
     ∙ ap (λ (f : List ℕ). given Passed (fileOffer f b)) dot-film
 
 pub dot-spec : {M : Type 1} → statement M

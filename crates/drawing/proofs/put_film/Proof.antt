@@ -1,27 +1,30 @@
--- Both refusals come before anything is written.
+-- All refusals come before anything is written.
 use Prim.Native.Nat.{ℕ, _≤_}
-use mathlib.Core.Path.{_≡_, sym, ap, _∙_}
+use mathlib.Core.Path.{_≡_, refl, sym, ap, _∙_}
 use mathlib.Core.List.{List, _++_}
 use lib.ListN.{length, drop}
 use lib.Seq.{length-take-le}
 use denote.Ref.{now}
 use borrow.Author.Needs.{needs}
+use Rattle.limits.proofs.Verdicts.{then-both}
 use Rattle.checks.specs.Checks.{roomVerdict}
 use Rattle.checks.specs.Answer.{Offer, done}
 use Rattle.checks.proofs.Verdicts.{room-passed}
 use Rattle.checks.proofs.Given.{refused-here, passed-here, no-room, room-left}
-use Rattle.drawing.specs.Film.{Drawing, film, fileOffer, Raster}
+use Rattle.pbm.specs.Pbm.{fileOffer}
+use Rattle.drawing.specs.Strokes.{Drawing, drawingOf, strokesVerdict, firstRefused}
+use Rattle.drawing.specs.Film.{film, Raster}
 use Rattle.drawing.proofs.Put.{film-long, raster-passed}
 use Rattle.drawing.proofs.put_film.Statement.{statement}
 use Rattle.drawing.proofs.put_film.Tie as tie
 
 -- ---- the places
--- where the raster has been checked: the drawing that the arguments are, and what the call offers
-abbrev start : tie.After-raster-check → tie.Start
+-- where the strokes and the raster have been checked: the drawing that the arguments are, and what the call offers
+abbrev start : tie.After-film-check → tie.Start
 start c = c .before .before .before .before
 
 abbrev drawing : tie.Start → Drawing
-drawing s = record { table = s .args .table; apertures = now (s .args .apertures); starts = now (s .args .starts); entries = now (s .args .entries) }
+drawing s = drawingOf (s .args .table) (now (s .args .apertures)) (now (s .args .starts)) (now (s .args .entries))
 
 abbrev whole : tie.Start → List ℕ
 whole s = film (drawing s) (s .args .columns) (s .args .rows)
@@ -31,7 +34,11 @@ offer s = fileOffer (whole s) (now (s .args .out))
 
 -- where that check is passed: the sizes are a raster's
 raster : (c : tie.After-enum-told) → let a = start (c .before .before) .args in Raster (a .columns) (a .rows)
-raster c = let k = c .before .before in let a = start k .args in raster-passed (a .columns) (a .rows) (k .raster-check .ensures) (c .enum-told .given .1)
+raster c =
+    let k = c .before .before in
+    let a = start k .args in
+    let passed = sym (k .film-check .ensures) ∙ c .enum-told .given .1 in
+    raster-passed (a .columns) (a .rows) refl (then-both (strokesVerdict (firstRefused (drawing (start k)) (a .columns) (a .rows))) _ passed .1)
 
 -- where the length is known, it is the film's
 abbrev begin : tie.After-length-of → tie.Start
@@ -50,8 +57,8 @@ room c =
     let k = c .before .before in
     room-passed (k .before .length-of .result) (length (now (begin (k .before) .args .out))) (k .room-check .ensures) (c .enum-told3 .given .1)
 
-raster-check-requires : tie.Need-raster-check-requires
-raster-check-requires c κs = search needs
+film-check-requires : tie.Need-film-check-requires
+film-check-requires c κs = search needs
 
 enum-told : tie.Need-enum-told
 enum-told c = search needs
@@ -63,7 +70,7 @@ report-requires : tie.Need-report-requires
 report-requires c κs = search needs
 
 returns : tie.Need-returns
-returns c = let k = c .before .before .before in refused-here (offer (start k)) (k .raster-check .ensures) (c .before .enum-told2 .given .1) (c .report .ensures)
+returns c = let k = c .before .before .before in refused-here (offer (start k)) (k .film-check .ensures) (c .before .enum-told2 .given .1) (c .report .ensures)
 
 length-of-requires : tie.Need-length-of-requires
 length-of-requires c κs = raster c
@@ -86,7 +93,7 @@ returns-2 c =
     let passed = k .before .before in
     let checked = passed .before .before in
     let o = offer (start checked) in
-    passed-here o (checked .raster-check .ensures) (passed .enum-told .given .1) (no-room o (verdict k) (c .before .enum-told4 .given .1) (c .report2 .ensures))
+    passed-here o (checked .film-check .ensures) (passed .enum-told .given .1) (no-room o (verdict k) (c .before .enum-told4 .given .1) (c .report2 .ensures))
 
 slice-relend-prefix-put-file : tie.Need-slice-relend-prefix-put-file
 slice-relend-prefix-put-file c = let h = room c in search needs
@@ -115,7 +122,7 @@ returns-3 c =
     let passed = k .before in
     let checked = passed .before .before in
     let s = start checked in
-    passed-here (offer s) (checked .raster-check .ensures) (passed .enum-told .given .1)
+    passed-here (offer s) (checked .film-check .ensures) (passed .enum-told .given .1)
     (room-left (offer s) (room-passed _ _ (verdict (fits .before .before)) (fits .enum-told3 .given .1)) (c .done .ensures ∙ ap done (long k))
     (ap (λ (l : List ℕ). l ++ drop (k .length-of .result) (now (s .args .out))) (put .put-file .ensures) ∙ ap (λ (n : ℕ). whole s ++ drop n (now (s .args .out))) (long k)))
 
@@ -123,7 +130,7 @@ pub put-film-spec : {M : Type 1} → statement M
 put-film-spec =
     tie.close
     (tie.spec
-    raster-check-requires
+    film-check-requires
     enum-told
     enum-told-2
     report-requires

@@ -1,39 +1,72 @@
--- Each turn defines one aperture more.
-use Prim.Native.Nat.{ℕ, _+_, _*_, _-_, _/_, _≤_, _<_}
+-- Each turn defines one aperture more, or is refused.
+use Prim.Native.Nat.{ℕ, suc, _+_, _*_, _-_, _≤_}
 use native.Mathlib.Numerals.{add-one}
 use native.Mathlib.Omega.{arith}
-use mathlib.Core.Path.{_≡_, refl, sym, ap, _∙_}
+use mathlib.Core.Path.{_≡_, sym, ap, ap₂, _∙_}
 use mathlib.Core.List.{List}
-use lib.ListN.{length, getD}
+use lib.ListN.{getD}
 use denote.Ref.{now}
 use Rattle.limits.specs.Sizes.{apertureMin}
-use Rattle.drawing.specs.Film.{settingAt, tableUpTo}
 use Rattle.aperture.specs.declared.Table.{Table}
 use Rattle.aperture.specs.declared.Changed.{Changed}
-use Rattle.aperture.specs.Table.{defined}
-use Rattle.drawing.proofs.Rows.{none, one-more}
+use Rattle.aperture.specs.Table.{empty, defined}
+use Rattle.drawing.specs.Settings.{settingAt, settingCount, tabledFrom, tableOf}
+use Rattle.drawing.proofs.Defined.{none-left, next-defined, next-refused}
 use borrow.Author.Needs.{needs}
 use Rattle.drawing.proofs.table.Statement.{statement}
 use Rattle.drawing.proofs.table.Tie as tie
 
+-- what is left to be defined gives the answer
 abbrev Inv-loop : tie.InvT-loop
-Inv-loop settings n t₀ i₀ t i = (i ≤ n) × (t ≡ tableUpTo settings i)
+Inv-loop settings n t₀ i₀ t i = (i ≤ n) × (tabledFrom settings i (n - i) t ≡ tableOf settings)
 
 abbrev μ-loop : tie.MeasureT-loop
 μ-loop settings n t₀ i₀ t i = n - i
 
--- in a turn: the list of settings
+-- ---- the places
+-- in a turn: the list of settings, and how many are left
 abbrev settings : tie.At-loop Inv-loop μ-loop → List ℕ
 settings c = now (c .before .before .before .args .settings)
 
 abbrev turning : tie.After-define Inv-loop μ-loop → tie.At-loop Inv-loop μ-loop
-turning c = let known = c .before .before .before in known .before .before
+turning c = let numbers = c .before .before .before in numbers .before .before
+
+abbrev tried : tie.At-loop Inv-loop μ-loop → Changed
+tried c = defined (c .loop .t) (apertureMin + c .loop .i) (settingAt (settings c) (c .loop .i))
+
+-- one setting less is left, and setting i is the first of those that are
+here : (c : tie.In-loop Inv-loop μ-loop) → let t = c .before in let l = t .loop in
+    tabledFrom (settings t) (l .i) (suc (settingCount (settings t) - (l .i + 1))) (l .t) ≡ tableOf (settings t)
+here c =
+    let t = c .before in
+    let l = t .loop in
+    let n = settingCount (settings t) in
+    let fewer : suc (n - (l .i + 1)) ≡ n - l .i = omega arith in
+    ap (λ (m : ℕ). tabledFrom (settings t) (l .i) m (l .t)) fewer ∙ l .inv .1
+
+-- the three numbers are setting i
+setting-is : {w p q : ℕ} (l : List ℕ) (i : ℕ) → w ≡ getD l (3 * i) 0 → p ≡ getD l (3 * i + 1) 0 → q ≡ getD l (3 * i + 2) 0 → record { w = w; p = p; q = q } ≡ settingAt l i
+setting-is l i e f g = rw (e, f, g)
+
+changed : (c : tie.After-define Inv-loop μ-loop) → c .define .result ≡ tried (turning c)
+changed c =
+    let third = c .before in
+    let second = third .before in
+    let t = turning c in
+    c .define .ensures
+    ∙ ap (defined (t .loop .t) (apertureMin + t .loop .i)) (setting-is (settings t) (t .loop .i) (second .before .number .ensures) (second .number2 .ensures) (third .number3 .ensures))
+
+add-n : tie.Need-add-n Inv-loop μ-loop
+add-n c = search needs
 
 none-requires : tie.Need-none-requires Inv-loop μ-loop
 none-requires c κs = search needs
 
 loop-holds : tie.Need-loop-holds Inv-loop μ-loop
-loop-holds c = (search needs, c .none .ensures ∙ none (now (c .before .before .args .settings)))
+loop-holds c =
+    let l = now (c .before .before .args .settings) in
+    let n : settingCount l - 0 ≡ settingCount l = omega arith in
+    (omega arith, ap (tabledFrom l 0 (settingCount l - 0)) (c .none .ensures) ∙ ap (λ (m : ℕ). tabledFrom l 0 m empty) n)
 
 mul-at : tie.Need-mul-at Inv-loop μ-loop
 mul-at c = search needs
@@ -41,32 +74,35 @@ mul-at c = search needs
 add-define : tie.Need-add-define Inv-loop μ-loop
 add-define c = search needs
 
-mul-define : tie.Need-mul-define Inv-loop μ-loop
-mul-define c = search needs
+number-requires : tie.Need-number-requires Inv-loop μ-loop
+number-requires c κs = search needs
 
-shared-slice-read-define : tie.Need-shared-slice-read-define Inv-loop μ-loop
-shared-slice-read-define c = search needs
+add-number : tie.Need-add-number Inv-loop μ-loop
+add-number c = search needs
 
-add-define-2 : tie.Need-add-define-2 Inv-loop μ-loop
-add-define-2 c = search needs
+number-requires-2 : tie.Need-number-requires-2 Inv-loop μ-loop
+number-requires-2 c κs = search needs
 
-mul-define-2 : tie.Need-mul-define-2 Inv-loop μ-loop
-mul-define-2 c = search needs
+add-number-2 : tie.Need-add-number-2 Inv-loop μ-loop
+add-number-2 c = search needs
 
-shared-slice-read-define-2 : tie.Need-shared-slice-read-define-2 Inv-loop μ-loop
-shared-slice-read-define-2 c = search needs
-
-add-define-3 : tie.Need-add-define-3 Inv-loop μ-loop
-add-define-3 c = search needs
-
-mul-define-3 : tie.Need-mul-define-3 Inv-loop μ-loop
-mul-define-3 c = search needs
-
-shared-slice-read-define-3 : tie.Need-shared-slice-read-define-3 Inv-loop μ-loop
-shared-slice-read-define-3 c = search needs
+number-requires-3 : tie.Need-number-requires-3 Inv-loop μ-loop
+number-requires-3 c κs = search needs
 
 define-requires : tie.Need-define-requires Inv-loop μ-loop
 define-requires c κs = search needs
+
+none-requires-2 : tie.Need-none-requires-2 Inv-loop μ-loop
+none-requires-2 c κs = search needs
+
+returns : tie.Need-returns Inv-loop μ-loop
+returns c =
+    let d = c .before .before .before in
+    let t = turning d in
+    let refusal = ap (λ (r : Changed). r .refusal) (changed d) in
+    ap₂ (λ (n : ℕ) (u : Table). record { refusal = n; place = t .loop .i; table = u }) refusal (c .none2 .ensures)
+    ∙ sym (next-refused (settings t) (t .loop .i) (t .loop .t) _ (λ e. c .before .if1 .taken (refusal ∙ e)))
+    ∙ here (d .before .before .before .before)
 
 add-i : tie.Need-add-i Inv-loop μ-loop
 add-i c = search needs
@@ -76,18 +112,24 @@ loop-less c = search needs
 
 loop-again : tie.Need-loop-again Inv-loop μ-loop
 loop-again c =
-    let defined-here = c .before in
-    let k = turning defined-here in
-    let l = k .loop in
-    let s = settings k in
-    (search needs, ap (λ (r : Changed). r .table) (defined-here .define .ensures) ∙ ap (λ (t : Table). defined t (apertureMin + l .i) (settingAt s (l .i)) .table) (l .inv .1) ∙ one-more s (l .i))
+    let d = c .before .before .before in
+    let t = turning d in
+    let l = t .loop in
+    let n = settingCount (settings t) - (l .i + 1) in
+    let refusal = ap (λ (r : Changed). r .refusal) (changed d) in (
+      search needs,
+      ap (tabledFrom (settings t) (l .i + 1) n) (ap (λ (r : Changed). r .table) (changed d))
+          ∙ ap (λ (i : ℕ). tabledFrom (settings t) i n (tried t .table)) (add-one (l .i))
+          ∙ sym (next-defined (settings t) (l .i) (l .t) n (sym refusal ∙ c .before .if1 .left))
+          ∙ here (d .before .before .before .before),
+    )
 
-returns : tie.Need-returns Inv-loop μ-loop
-returns c =
-    let l = c .before .loop in
-    let s = settings (c .before) in
-    let e : l .i ≡ length s / 3 = omega arith in
-    l .inv .1 ∙ ap (tableUpTo s) e
+returns-2 : tie.Need-returns-2 Inv-loop μ-loop
+returns-2 c =
+    let t = c .before in
+    let l = t .loop in
+    let none : 0 ≡ settingCount (settings t) - l .i = omega arith in
+    none-left (settings t) (l .i) (l .t) ∙ ap (λ (m : ℕ). tabledFrom (settings t) (l .i) m (l .t)) none ∙ l .inv .1
 
 pub table-spec : {M : Type 1} → statement M
 table-spec =
@@ -95,20 +137,20 @@ table-spec =
     (tie.spec
     Inv-loop
     μ-loop
+    add-n
     none-requires
     loop-holds
     mul-at
     add-define
-    mul-define
-    shared-slice-read-define
-    add-define-2
-    mul-define-2
-    shared-slice-read-define-2
-    add-define-3
-    mul-define-3
-    shared-slice-read-define-3
+    number-requires
+    add-number
+    number-requires-2
+    add-number-2
+    number-requires-3
     define-requires
+    none-requires-2
+    returns
     add-i
     loop-less
     loop-again
-    returns)
+    returns-2)

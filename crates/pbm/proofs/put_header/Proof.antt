@@ -1,44 +1,49 @@
--- The two sizes' digits are those that the definition has, and few, so nothing wraps.
+-- The two sizes' digits are those that the definition has, and few, so nothing wraps. Both refusals come before anything is written.
 use Prim.Native.Nat.{ℕ, _+_, _≤_}
 use mathlib.Core.Bool.{true}
 use native.Mathlib.Omega.{arith}
-use mathlib.Core.Path.{_≡_, sym, _∙_}
-use mathlib.Core.Logic.{⊎-elim}
+use mathlib.Core.Path.{_≡_, ap, _∙_}
 use mathlib.Core.List.{List}
 use lib.ListN.{length}
 use denote.Ref.{now}
-use Rattle.pbm.proofs.Decimal.{Written, written, size-short}
-use Rattle.pbm.proofs.Pieces.{nothing-put, header-put, bad-columns, bad-rows, header-too-long, header-fits, header-length, same-digits}
 use Rattle.limits.specs.Sizes.{isSize}
-use Rattle.pbm.specs.Pbm.{decimal, header}
-use borrow.Author.Tests.{not-true, not-false}
+use Rattle.checks.specs.Checks.{roomVerdict}
+use Rattle.checks.specs.Answer.{Offer, done}
+use Rattle.checks.proofs.Verdicts.{room-passed}
+use Rattle.checks.proofs.Given.{refused-here, passed-here, no-room, room-left}
+use Rattle.pbm.specs.Pbm.{decimal, header, fileOffer}
+use Rattle.pbm.proofs.Decimal.{Written, written, size-short}
+use Rattle.pbm.proofs.Pieces.{header-length, same-digits, raster-sizes}
 use borrow.Author.Needs.{needs}
 use Rattle.pbm.proofs.put_header.Statement.{statement}
 use Rattle.pbm.proofs.put_header.Tie as tie
 
--- where both sizes passed: the check of the columns, and the call
-abbrev first-check : tie.Else2 → tie.After-is-size
-first-check c = c .before .before .before
+-- where the raster has been checked: the call, and what it offers
+abbrev start : tie.After-raster-check → tie.Start
+start c = c .before .before
 
-abbrev start : tie.Else2 → tie.Start
-start c = first-check c .before .before
+abbrev offer : tie.Start → Offer ℕ
+offer s = fileOffer (header (s .args .columns) (s .args .rows)) (now (s .args .out))
 
-sizes : (c : tie.Else2) → (isSize (start c .args .columns) ≡ true) × (isSize (start c .args .rows) ≡ true)
-sizes c =
-    (sym (first-check c .is-size .ensures) ∙ not-false _ (c .before .before .if1 .left), sym (c .before .is-size2 .ensures) ∙ not-false _ (c .if2 .left))
+-- where that check is passed
+sizes : (c : tie.After-enum-told) → let a = start (c .before .before) .args in (isSize (a .columns) ≡ true) × (isSize (a .rows) ≡ true)
+sizes c = let k = c .before .before in let a = start k .args in raster-sizes (a .columns) (a .rows) (k .raster-check .ensures) (c .enum-told .given .1)
 
 -- where the digits of both are written: that place, the two sizes and the buffer as it was lent
-abbrev passed : tie.After-decimal2 → tie.Else2
+abbrev passed : tie.After-decimal2 → tie.After-enum-told
 passed c = c .before .before .before .before
 
+abbrev begin : tie.After-decimal2 → tie.Start
+begin c = start (passed c .before .before)
+
 abbrev columns : tie.After-decimal2 → ℕ
-columns c = start (passed c) .args .columns
+columns c = begin c .args .columns
 
 abbrev rows : tie.After-decimal2 → ℕ
-rows c = start (passed c) .args .rows
+rows c = begin c .args .rows
 
 abbrev lent : tie.After-decimal2 → List ℕ
-lent c = now (start (passed c) .args .out)
+lent c = now (begin c .args .out)
 
 -- the digits are few, and those of the sizes; so the header is so long
 few : (c : tie.After-decimal2) → c .before .before .decimal .result + c .decimal2 .result ≤ 10
@@ -55,24 +60,28 @@ rows-written c = let d = c .decimal2 in written _ (d .ensures .0) (d .ensures .1
 long : (c : tie.After-decimal2) → c .before .before .decimal .result + c .decimal2 .result + 5 ≡ length (header (columns c) (rows c))
 long c = omega (arith, header-length (decimal (columns c)) (decimal (rows c)), columns-written c .long, rows-written c .long)
 
--- where the digits are put: the buffer was long enough
-abbrev enough : tie.After-put-digits → tie.Else3
-enough c = c .before .before .before .before
+-- where the room has been checked
+verdict : (c : tie.After-room-check) → let k = c .before in c .room-check .result ≡ roomVerdict (length (header (columns k) (rows k))) (length (lent k))
+verdict c = let k = c .before in c .room-check .ensures ∙ ap (λ (n : ℕ). roomVerdict n (length (lent k))) (long k)
 
-is-size-requires : tie.Need-is-size-requires
-is-size-requires c κs = search needs
+-- where that check is passed there is room
+room : (c : tie.After-enum-told3) → let k = c .before .before .before in length (header (columns k) (rows k)) ≤ length (lent k)
+room c = let k = c .before .before in room-passed _ _ (verdict k) (c .enum-told3 .given .1)
 
-is-size-requires-2 : tie.Need-is-size-requires-2
-is-size-requires-2 c κs = search needs
+raster-check-requires : tie.Need-raster-check-requires
+raster-check-requires c κs = search needs
+
+enum-told : tie.Need-enum-told
+enum-told c = search needs
+
+enum-told-2 : tie.Need-enum-told-2
+enum-told-2 c = search needs
+
+report-requires : tie.Need-report-requires
+report-requires c κs = search needs
 
 returns : tie.Need-returns
-returns c =
-    let a = c .before .before .before .args in
-    nothing-put (a .columns) (a .rows) (now (a .out))
-    (⊎-elim
-    (λ w. bad-columns (a .columns) (a .rows) (now (a .out)) (sym (c .before .is-size .ensures) ∙ not-true _ (w .taken)))
-    (λ w. bad-rows (a .columns) (a .rows) (now (a .out)) (sym (w .1 .ensures) ∙ not-true _ (w .2 .taken)))
-    (c .if1 .came))
+returns c = let k = c .before .before .before in refused-here (offer (start k)) (k .raster-check .ensures) (c .before .enum-told2 .given .1) (c .report .ensures)
 
 decimal-requires : tie.Need-decimal-requires
 decimal-requires c κs = search needs
@@ -80,16 +89,30 @@ decimal-requires c κs = search needs
 decimal-requires-2 : tie.Need-decimal-requires-2
 decimal-requires-2 c κs = search needs
 
-add-if3 : tie.Need-add-if3
-add-if3 c = omega (arith, few c)
+add-length : tie.Need-add-length
+add-length c = omega (arith, few c)
 
-add-if3-2 : tie.Need-add-if3-2
-add-if3-2 c = omega (arith, few c)
+add-length-2 : tie.Need-add-length-2
+add-length-2 c = omega (arith, few c)
+
+room-check-requires : tie.Need-room-check-requires
+room-check-requires c κs = search needs
+
+enum-told-3 : tie.Need-enum-told-3
+enum-told-3 c = search needs
+
+enum-told-4 : tie.Need-enum-told-4
+enum-told-4 c = search needs
+
+report-requires-2 : tie.Need-report-requires-2
+report-requires-2 c κs = search needs
 
 returns-2 : tie.Need-returns-2
 returns-2 c =
-    let d = c .before in
-    nothing-put (columns d) (rows d) (lent d) (header-too-long (columns d) (rows d) (lent d) (omega (arith, long d, c .if3 .taken)))
+    let k = c .before .before .before in
+    let p = passed (k .before) in
+    let o = offer (begin (k .before)) in
+    passed-here o (p .before .before .raster-check .ensures) (p .enum-told .given .1) (no-room o (verdict k) (c .before .enum-told4 .given .1) (c .report2 .ensures))
 
 array-share-prefix-columns-digits : tie.Need-array-share-prefix-columns-digits
 array-share-prefix-columns-digits c = search needs
@@ -104,44 +127,52 @@ slice-aggregate-put-digits-2 : tie.Need-slice-aggregate-put-digits-2
 slice-aggregate-put-digits-2 c = search needs
 
 put-digits-requires : tie.Need-put-digits-requires
-put-digits-requires c κs = search needs
+put-digits-requires c κs =
+    let fits = c .before .before .before in
+    let h = room fits in
+    let l = long (fits .before .before .before) in
+    search needs
 
-add-result : tie.Need-add-result
-add-result c = search needs
-
-add-result-2 : tie.Need-add-result-2
-add-result-2 c = search needs
+done-requires : tie.Need-done-requires
+done-requires c κs = search needs
 
 same-length : tie.Need-same-length
 same-length c = search needs
 
 returns-3 : tie.Need-returns-3
 returns-3 c =
-    let put = c .before .before in
-    let d = enough put .before in
-    let s = sizes (passed d) in
-    let fit = header-fits (columns d) (rows d) (lent d) (s .0) (s .1) (omega (arith, long d, enough put .if3 .left)) in
+    let put = c .before .before .before in
+    let fits = put .before .before .before .before in
+    let d = fits .before .before .before in
+    let p = passed d in
+    let o = offer (begin d) in
     let digits = same-digits (lent d) (columns-written d .text) (rows-written d .text) in
-    header-put (columns d) (rows d) (lent d) fit (long d) (put .put-digits .ensures ∙ digits)
+    passed-here o (p .before .before .raster-check .ensures) (p .enum-told .given .1)
+    (room-left o (room fits) (c .done .ensures ∙ ap done (long d)) (put .put-digits .ensures ∙ digits))
 
 pub put-header-spec : {M : Type 1} → statement M
 put-header-spec =
     tie.close
     (tie.spec
-    is-size-requires
-    is-size-requires-2
+    raster-check-requires
+    enum-told
+    enum-told-2
+    report-requires
     returns
     decimal-requires
     decimal-requires-2
-    add-if3
-    add-if3-2
+    add-length
+    add-length-2
+    room-check-requires
+    enum-told-3
+    enum-told-4
+    report-requires-2
     returns-2
     array-share-prefix-columns-digits
     slice-aggregate-put-digits
     array-share-prefix-rows-digits
     slice-aggregate-put-digits-2
     put-digits-requires
-    add-result
-    add-result-2
+    done-requires
     same-length
     returns-3)

@@ -5,7 +5,8 @@ use mathlib.Core.Path.{_≡_, ap, ap₂, _∙_}
 use lib.ListN.{length, replicate, length-replicate}
 use borrow.Author.Needs.{needs}
 use Rattle.limits.specs.Sizes.{rasterMax}
-use Rattle.pbm.specs.Pbm.{header, Put}
+use Rattle.checks.specs.Answer.{Result}
+use Rattle.pbm.specs.Pbm.{header}
 use Rattle.drawing.proofs.Put.{header-most, rows-most, header-put-whole}
 use Rattle.drawing.proofs.film.length_of.Statement.{statement}
 use Rattle.drawing.proofs.film.length_of.Tie as tie
@@ -14,10 +15,10 @@ use Rattle.drawing.proofs.film.length_of.Tie as tie
 abbrev start : tie.After-put-header → tie.Start
 start c = c .before .before
 
-counted : (c : tie.After-put-header) → let a = start c .args in c .put-header .result ≡ length (header (a .columns) (a .rows))
+counted : (c : tie.After-put-header) → let a = start c .args in c .put-header .result .count ≡ length (header (a .columns) (a .rows))
 counted c =
     let s = start c in
-    ap (λ (r : Put). r .count) (c .put-header .ensures ∙ header-put-whole (s .pre) (replicate 15 0) (omega (arith, header-most (s .pre), length-replicate {A = ℕ} 15 0)))
+    ap (λ (r : Result ℕ). r .answer .count) (c .put-header .ensures ∙ header-put-whole (s .pre) (replicate 15 0) (omega (arith, header-most (s .pre), length-replicate {A = ℕ} 15 0)))
 
 -- where the length of a row is known: the rows' bytes are few enough to be counted
 few : (c : tie.After-row-length) → let s = start (c .before .before) in s .args .rows * c .row-length .result ≤ rasterMax * 2048

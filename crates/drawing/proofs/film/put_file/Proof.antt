@@ -8,8 +8,10 @@ use lib.Seq.{take-at, length-take-le}
 use denote.Ref.{now}
 use borrow.Author.Needs.{needs}
 use Rattle.packed.specs.Packed.{packedLength}
-use Rattle.pbm.specs.Pbm.{header, topFirst, started, Put}
-use Rattle.drawing.specs.Film.{Drawing, drawingOf, rowOf}
+use Rattle.checks.specs.Answer.{Result, done}
+use Rattle.pbm.specs.Pbm.{header, topFirst, started}
+use Rattle.drawing.specs.Strokes.{Drawing, drawingOf}
+use Rattle.drawing.specs.Film.{rowOf}
 use Rattle.drawing.proofs.Rows.{replaced}
 use Rattle.drawing.proofs.Put.{header-put-whole, zeros}
 use Rattle.drawing.proofs.film.put_file.Statement.{statement}
@@ -33,15 +35,15 @@ abbrev buffer : tie.After-put-header → List ℕ
 buffer c = c .put-header .last .0
 
 put : (c : tie.After-put-header) → let s = start c in
-    _≡_ {A = Put} (record { count = c .put-header .result; buffer = buffer c }) (record { count = length (head s); buffer = started (head s) (now (s .args .out)) })
+    _≡_ {A = Result ℕ} (record { answer = c .put-header .result; list = buffer c }) (record { answer = done (length (head s)); list = started (head s) (now (s .args .out)) })
 put c = let s = start c in c .put-header .ensures ∙ header-put-whole (s .pre .0) (now (s .args .out)) (omega (arith, s .pre .1))
 
-front : (c : tie.After-put-header) → take (c .put-header .result) (buffer c) ≡ head (start c)
-front c = ap (λ (r : Put). take (r .count) (r .buffer)) (put c) ∙ take-at _ _ _ refl
+front : (c : tie.After-put-header) → take (c .put-header .result .count) (buffer c) ≡ head (start c)
+front c = ap (λ (r : Result ℕ). take (r .answer .count) (r .list)) (put c) ∙ take-at _ _ _ refl
 
 -- the rows' bytes are those behind it
-behind : (c : tie.After-put-header) → let a = start c .args in length (buffer c) ≡ c .put-header .result + a .sheet .rows * packedLength (a .sheet .columns)
-behind c = omega (arith, ap (λ (r : Put). r .count) (put c), c .put-header .kept .0, start c .pre .1)
+behind : (c : tie.After-put-header) → let a = start c .args in length (buffer c) ≡ c .put-header .result .count + a .sheet .rows * packedLength (a .sheet .columns)
+behind c = omega (arith, ap (λ (r : Result ℕ). r .answer .count) (put c), c .put-header .kept .0, start c .pre .1)
 
 -- the part that is lent: zeros, as many as a row has bytes
 abbrev part : tie.After-row-length → List ℕ
@@ -78,7 +80,7 @@ sub-put-rows : tie.Need-sub-put-rows
 sub-put-rows c = omega (arith, behind (headed c))
 
 part-put-rows-start : tie.Need-part-put-rows-start
-part-put-rows-start c = let h = headed c in let b : h .put-header .result ≤ length (buffer h) = omega (arith, behind h) in search needs
+part-put-rows-start c = let h = headed c in let b : h .put-header .result .count ≤ length (buffer h) = omega (arith, behind h) in search needs
 
 part-put-rows-end : tie.Need-part-put-rows-end
 part-put-rows-end c = search needs
@@ -87,7 +89,7 @@ put-rows-requires : tie.Need-put-rows-requires
 put-rows-requires c κs =
     let h = headed (c .before) in
     let r = h .before .before in
-    let at = h .put-header .result in
+    let at = h .put-header .result .count in
     let sheet = begin r .args .sheet in
     let rest : length (take (length (buffer h) - at) (drop at (buffer h))) ≡ sheet .rows * packedLength (sheet .columns) =
     simp (length-take, length-drop) (omega (arith, behind h)) in
@@ -102,8 +104,8 @@ returns c =
     let h = headed (drawn .before .before) in
     let s = start h in
     let a = s .args in
-    let d : Drawing = drawingOf (a .sheet) (now (a .apertures)) (now (a .starts)) (now (a .entries)) in
-    replaced _ _ (buffer h) (h .put-header .result) (front h)
+    let d : Drawing = drawingOf (a .sheet .table) (now (a .apertures)) (now (a .starts)) (now (a .entries)) in
+    replaced _ _ (buffer h) (h .put-header .result .count) (front h)
     ∙ ap (λ (l : List ℕ). head s ++ l)
     (drawn .put-rows .ensures ∙ ap (λ (n : ℕ). topFirst (a .sheet .rows) (rowOf d (a .sheet .columns) (a .sheet .rows) n)) (part-packed (h .before .before)))
 

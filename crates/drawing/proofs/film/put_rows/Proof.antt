@@ -1,5 +1,5 @@
 -- Each turn puts one row more behind those that are there.
-use Prim.Native.Nat.{ℕ, _+_, _*_, _-_, _≤_, _<_}
+use Prim.Native.Nat.{ℕ, _+_, _*_, _-_, _≤_}
 use native.Mathlib.Nat.{zero-mul}
 use native.Mathlib.Omega.{arith}
 use mathlib.Core.Path.{_≡_, refl, sym, ap, _∙_}
@@ -9,7 +9,8 @@ use denote.Ref.{now}
 use borrow.Rule.Slice.PartMut.{same-len-mid}
 use borrow.Author.Needs.{needs}
 use Rattle.pbm.specs.Pbm.{topFirst}
-use Rattle.drawing.specs.Film.{Drawing, drawingOf, rowOf}
+use Rattle.drawing.specs.Strokes.{Drawing, drawingOf}
+use Rattle.drawing.specs.Film.{rowOf}
 use Rattle.drawing.proofs.Rows.{turn, put-row, last-row}
 use Rattle.drawing.proofs.film.put_rows.Statement.{statement}
 use Rattle.drawing.proofs.film.put_rows.Tie as tie
@@ -27,7 +28,7 @@ record Put (f : ℕ → List ℕ) (rows width all : ℕ) (part out : List ℕ) (
 
 abbrev Inv-loop : tie.InvT-loop
 Inv-loop sheet apertures starts entries part₀ out₀ width at₀ row₀ part out at row =
-    (width ≡ length part₀) × Put (rowOf (drawingOf sheet apertures starts entries) (sheet .columns) (sheet .rows) width) (sheet .rows) width (length out₀) part out at row
+    (width ≡ length part₀) × Put (rowOf (drawingOf (sheet .table) apertures starts entries) (sheet .columns) (sheet .rows) width) (sheet .rows) width (length out₀) part out at row
 
 abbrev μ-loop : tie.MeasureT-loop
 μ-loop sheet apertures starts entries part₀ out₀ width at₀ row₀ part out at row = row
@@ -38,7 +39,7 @@ abbrev start : tie.At-loop Inv-loop μ-loop → tie.Start Inv-loop μ-loop
 start c = let known = c .before .before in known .before .before .before
 
 abbrev drawing : tie.Start Inv-loop μ-loop → Drawing
-drawing s = drawingOf (s .args .sheet) (now (s .args .apertures)) (now (s .args .starts)) (now (s .args .entries))
+drawing s = drawingOf (s .args .sheet .table) (now (s .args .apertures)) (now (s .args .starts)) (now (s .args .entries))
 
 abbrev width : tie.At-loop Inv-loop μ-loop → ℕ
 width c = length (now (start c .args .part))

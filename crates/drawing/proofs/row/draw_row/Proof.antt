@@ -1,15 +1,15 @@
 -- Each turn lays one stroke more over the row.
-use Prim.Native.Nat.{ℕ, _+_, _-_, _≤_, min}
+use Prim.Native.Nat.{ℕ, _-_, _≤_}
 use native.Mathlib.Omega.{arith}
 use mathlib.Core.Path.{_≡_, refl, sym, ap, _∙_}
 use mathlib.Core.List.{List}
-use lib.ListN.{length, getD, take, drop, replicate, length-replicate}
+use lib.ListN.{length, getD, replicate, length-replicate}
 use lib.IntN.{ℤ}
 use denote.Ref.{now}
 use borrow.Author.Needs.{needs}
-use Rattle.drawing.specs.declared.Sheet.{Sheet}
-use Rattle.drawing.specs.Film.{Drawing, drawingOf, pathOf, added, rowUpTo}
-use Rattle.drawing.proofs.Rows.{row-none, row-more, brought-in}
+use Rattle.drawing.specs.Strokes.{Drawing, drawingOf, pathOf}
+use Rattle.drawing.specs.Film.{added, rowUpTo}
+use Rattle.drawing.proofs.Rows.{row-none, row-more}
 use Rattle.drawing.proofs.row.draw_row.Statement.{statement}
 use Rattle.drawing.proofs.row.draw_row.Tie as tie
 
@@ -25,7 +25,7 @@ record Laid (d : Drawing) (columns rows row width : ℕ) (part bytes : List ℕ)
 
 abbrev Inv-loop : tie.InvT-loop
 Inv-loop sheet apertures starts entries row part₀ bytes₀ k₀ part bytes k =
-    Laid (drawingOf sheet apertures starts entries) (sheet .columns) (sheet .rows) row (length bytes₀) part bytes k
+    Laid (drawingOf (sheet .table) apertures starts entries) (sheet .columns) (sheet .rows) row (length bytes₀) part bytes k
 
 abbrev μ-loop : tie.MeasureT-loop
 μ-loop sheet apertures starts entries row part₀ bytes₀ k₀ part bytes k = length apertures - k
@@ -40,25 +40,11 @@ width c = length (c .clear .last .0)
 
 -- the drawing that the arguments are
 abbrev drawing : tie.Start Inv-loop μ-loop → Drawing
-drawing s = drawingOf (s .args .sheet) (now (s .args .apertures)) (now (s .args .starts)) (now (s .args .entries))
+drawing s = drawingOf (s .args .sheet .table) (now (s .args .apertures)) (now (s .args .starts)) (now (s .args .entries))
 
 -- in a turn: the loop's state, and what was before the loop
 abbrev cleared : tie.At-loop Inv-loop μ-loop → tie.After-clear Inv-loop μ-loop
 cleared c = c .before .before .before
-
--- the entries of stroke k are its path
-part-is : (c : tie.After-span-of Inv-loop μ-loop) → let loop = c .before .before in let s = start (cleared loop) in
-    take (c .span-of .result .end - c .span-of .result .first) (drop (c .span-of .result .first) (now (s .args .entries))) ≡ pathOf (now (s .args .starts)) (now (s .args .entries)) (loop .loop .k)
-part-is c =
-    let loop = c .before .before in
-    let a = start (cleared loop) .args in
-    let l : List ℤ = now (a .entries) in
-    let from = getD (now (a .starts)) (loop .loop .k) 0 in
-    let to = getD (now (a .starts)) (loop .loop .k + 1) 0 in
-    let end = c .span-of .ensures .0 in
-    ap (λ (n : ℕ). take (c .span-of .result .end - n) (drop n l)) (c .span-of .ensures .1)
-    ∙ ap (λ (n : ℕ). take (n - min from n) (drop (min from n) l)) end
-    ∙ brought-in l from to
 
 -- the way back from where the stroke has been laid over the row
 abbrev spanned : tie.After-add-stroke Inv-loop μ-loop → tie.After-span-of Inv-loop μ-loop
@@ -126,7 +112,7 @@ loop-again c =
       clear = r .ensures .0 ∙ ap zeros (l .inv .long);
       laid =
           r .ensures .1
-          ∙ ap (λ (p : List ℤ). added (a .sheet .table) number p (a .sheet .columns) (a .sheet .rows) (a .row) (l .bytes)) (part-is k)
+          ∙ ap (λ (p : List ℤ). added (a .sheet .table) number p (a .sheet .columns) (a .sheet .rows) (a .row) (l .bytes)) (k .span-of .ensures .path)
           ∙ ap (added (a .sheet .table) number (pathOf (now (a .starts)) (now (a .entries)) (l .k)) (a .sheet .columns) (a .sheet .rows) (a .row)) (l .inv .laid)
           ∙ row-more (drawing s) (a .sheet .columns) (a .sheet .rows) (a .row) (width (cleared loop)) (l .k);
     }

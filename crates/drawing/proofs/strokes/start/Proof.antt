@@ -3,8 +3,8 @@ use mathlib.Core.Path.{sym}
 use lib.ListN.{List·getD-eq-default}
 use denote.Ref.{now}
 use borrow.Author.Needs.{needs}
-use Rattle.drawing.proofs.row.start.Statement.{statement}
-use Rattle.drawing.proofs.row.start.Tie as tie
+use Rattle.drawing.proofs.strokes.start.Statement.{statement}
+use Rattle.drawing.proofs.strokes.start.Tie as tie
 
 mul-result : tie.Need-mul-result
 mul-result c = search needs

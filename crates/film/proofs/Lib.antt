@@ -1,0 +1,2 @@
+-- What is proved of the legend.
+pub mod Taken
