@@ -43,7 +43,7 @@
  * what is written. Any address will do. A null pointer with length 0 is an empty
  * path (refusal 2) or no room at all: no run, or no byte, fits in it.
  *
- * Stack. A row call needs 101 KB of it (100,832 bytes), a packed row 68 KB (67,600),
+ * Stack. A row call needs 69 KB of it (70,368 bytes), a packed row 67 KB (67,856),
  * whatever the path. A thread of ZIMAROLFO_STACK bytes has enough for both.
  */
 #ifndef ZIMAROLFO_H

@@ -17,13 +17,13 @@ use Rattle.limits.proofs.Sizes.{size-iff}
 use Rattle.limits.proofs.Verdicts.{unless-true}
 use Rattle.checks.specs.Checks.{rasterVerdict}
 use Rattle.checks.specs.Answer.{settled, given}
-use Rattle.packed.specs.Packed.{packedLength}
+use Rattle.bits.specs.Bits.{packedLength}
 use Rattle.pbm.specs.Pbm.{decimal, header, topFirst, started, headerPut}
 use Rattle.pbm.proofs.Decimal.{size-few}
 use Rattle.pbm.proofs.Pieces.{header-length}
 use Rattle.pbm.proofs.Theorems.{top-first}
 use Rattle.drawing.specs.Film.{Drawing, rowUpTo, rowOf, film, filmLength, fileOffer, filmPut, Raster}
-use Rattle.drawing.proofs.Over.{over-length}
+use Rattle.bits.proofs.Over.{over-length}
 use Rattle.drawing.proofs.Rows.{put-whole}
 
 -- ---- the length of a film

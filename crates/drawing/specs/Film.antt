@@ -1,7 +1,6 @@
 -- The film of a drawing: several strokes, each with an aperture of a table.
 use Prim.Native.Nat.{ℕ, zero, suc, _+_, _*_, _/_}
 use mathlib.Core.List.{List, [], _∷_}
-use lib.Bits.{bitOr}
 use lib.ListN.{length, getD, replicate}
 use lib.Seq.{slice}
 use lib.IntN.{ℤ}
@@ -11,7 +10,8 @@ use Rattle.aperture.specs.declared.Table.{Table}
 use Rattle.aperture.specs.Table.{empty, defined}
 use Rattle.checks.specs.Checks.{rasterVerdict}
 use Rattle.checks.specs.Answer.{Result, Offer, given}
-use Rattle.packed.specs.Packed.{packedLength, packedCall}
+use Rattle.bits.specs.Bits.{packedLength, laidOver}
+use Rattle.packed.specs.Packed.{packedCall}
 use Rattle.pbm.specs.Pbm.{header, file, started}
 use Rattle.drawing.specs.declared.Sheet.{Sheet}
 
@@ -37,12 +37,6 @@ pub record Drawing : Type 0 where
 -- the path of stroke k
 abbrev pub pathOf : List ℕ → List ℤ → ℕ → List ℤ
 pathOf starts entries k = slice (getD starts k 0) (getD starts (k + 1) 0) entries
-
--- bytes with those of another row laid over them: black is 1, so a bit is 1 where either has it
-unfoldable pub laidOver : List ℕ → List ℕ → List ℕ
-laidOver [] s = []
-laidOver (d ∷ ds) [] = d ∷ ds
-laidOver (d ∷ ds) (s ∷ ss) = bitOr d s ∷ laidOver ds ss
 
 -- bytes with row j of one stroke laid over them; a stroke that is refused adds nothing
 abbrev pub added : Table → ℕ → List ℤ → ℕ → ℕ → ℕ → List ℕ → List ℕ

@@ -13,7 +13,7 @@ use Rattle.limits.specs.declared.Verdict.the-variants.{Passed}
 use Rattle.checks.specs.Checks.{verdict}
 use Rattle.stroke.specs.Sweep.{centre, pathPoints}
 use Rattle.stroke.specs.Black.{BlackPath}
-use Rattle.packed.specs.Packed.{packed, packedLength}
+use Rattle.bits.specs.Bits.{packed, packedLength}
 use Rattle.pbm.specs.Pbm.{header}
 use Rattle.aperture.specs.Reachable.{Holds}
 use Rattle.drawing.specs.Film.{Drawing, pathOf, rowOf, film}

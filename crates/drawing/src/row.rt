@@ -4,7 +4,8 @@ use integers::min_usize;
 ghost use mathlib.Core.Path.{_≡_};
 ghost use Prim.Native.Nat.{_+_, _≤_, _<_, _^_, min};
 ghost use lib.ListN.{length, getD, replicate};
-ghost use Rattle.drawing.specs.Film.{laidOver, added, drawingOf, rowOf};
+ghost use Rattle.bits.specs.Bits.{laidOver};
+ghost use Rattle.drawing.specs.Film.{added, drawingOf, rowOf};
 
 // Where a stroke's entries stand, from `first` on and before `end`.
 pub struct Span {
