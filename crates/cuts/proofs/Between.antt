@@ -1,75 +1,77 @@
--- The bounds of the cuts in an array: each cut more keeps them, and no column outside them is black.
-use mathlib.Core.Path.{_≡_, refl, ap₂, _∙_}
-use mathlib.Core.Bool.{Bool, true, false, cond}
+-- The bounds of the cuts: each cut more keeps them, and no column outside them is black.
+use mathlib.Core.Path.{_≡_, refl, sym, _∙_}
+use mathlib.Core.Bool.{Bool, true, false, cond, _&&_, _||_, or-false, or-assoc}
 use mathlib.Core.List.{List, [], _∷_, List·Memᴰ·head as head, List·Memᴰ·tail as tail}
-use Prim.Native.Nat.{ℕ, zero, suc, _+_, min, max, _≤_, _<_}
+use Prim.Native.Nat.{ℕ, suc, _+_, min, max, _≤_, _<_}
 use native.Mathlib.Numerals.{add-one}
 use native.Mathlib.Omega.{arith}
-use native.Mathlib.Decide.{decLe}
-use borrow.Author.Tests.{ltb-false, lt-ltb, le-ltb}
-use lib.Dec.{ltb}
-use lib.ListN.{length, getD, set, drop, replicate, length-replicate, getD-replicate, List·getD-eq-default}
-use lib.Seq.{getD-set-other, drop-cons}
-use Rattle.cuts.specs.Cuts.{Below, farther, farOf, wider, boundsOf, Bounded, reachTo, blackFar}
+use borrow.Author.Tests.{ltb-false, lt-ltb, le-ltb, lt-leb}
+use lib.Dec.{leb, ltb}
+use lib.ListN.{length, getD, drop}
+use lib.Seq.{drop-cons}
+use Rattle.integers.specs.Count.{_∈_}
+use Rattle.integers.proofs.Tests.{and-false, false-and}
+use Rattle.cuts.specs.Cuts.{Below, inCut, blackCut, wider, boundsOf, unbounded, Bounded}
 use Rattle.cuts.specs.declared.cut.Cut.{Cut}
 use Rattle.cuts.specs.declared.cut.Cut.the-variants as cut·
 use Rattle.cuts.specs.declared.Bounds.{Bounds}
-use Rattle.integers.specs.Count.{_∈_}
-use Rattle.cuts.proofs.Marked.{set-low}
 
--- ---- cut by cut
--- a list of zeros has no other entry, and 0 stands for those past its end
-pub clear-at : (n x : ℕ) → _≡_ {A = ℕ} (getD (replicate n 0) x 0) 0
-clear-at n x = elim (decLe n x) [
-  | yes m ↦ List·getD-eq-default {A = ℕ} (replicate n 0) 0 {n = x} (omega (arith, length-replicate {A = ℕ} n 0))
-  | no m ↦ getD-replicate {A = ℕ} n x 0 0 (omega arith)
-]
+-- ---- columns and bounds
+-- the same columns have the same bounds
+pub bounded-ext : {f g : ℕ → Bool} {first end : ℕ} → ((x : ℕ) → g x ≡ f x) → Bounded f first end → Bounded g first end
+bounded-ext e b = record { ordered = b .ordered; clear-before = λ x h. e x ∙ b .clear-before x h; clear-past = λ x h. e x ∙ b .clear-past x h }
 
--- a clear array has no cut
-pub bounded-none : (far : List ℕ) → ((x : ℕ) → getD far x 0 ≡ 0) → Bounded far 0 0
-bounded-none far h = record { ordered = omega arith; clear-before = λ x k. h x; none-past = λ x. omega (arith, h x) }
+-- no column of a cut lies before its first, or past its last
+cut-before : (l r x : ℕ) → x < l → inCut x (cut·.Columns l r) ≡ false
+cut-before l r x h = sym (false-and (leb l x) (leb x r) (lt-leb l x h))
 
--- the next cut's columns start at l, and end before e: it goes into bounds that begin at l or before and end at e or past it
-bounded-marked : {far : List ℕ} {first end : ℕ} (l e first′ end′ : ℕ) → Bounded far first end → first′ ≤ end′ → first′ ≤ l → e ≤ end′ → end ≤ end′ →
-    ((x : ℕ) → x < first′ → getD far x 0 ≡ 0) → Bounded (set far l (max (getD far l 0) e)) first′ end′
-bounded-marked {far} {first} {end} l e first′ end′ b o f g h k = record {
+pub cut-past : (l r x : ℕ) → r < x → inCut x (cut·.Columns l r) ≡ false
+cut-past l r x h = and-false (leb l x) (leb x r) (lt-leb x r h)
+
+neither : {a b : Bool} → a ≡ false → b ≡ false → (a || b) ≡ false
+neither e f = rw (e, f)
+
+-- one cut more, from l to r: it goes into bounds that begin at l or before and end past r
+bounded-more : (f : ℕ → Bool) (l r first end : ℕ) → first ≤ end → first ≤ l → r < end → ((x : ℕ) → x < first → f x ≡ false) → ((x : ℕ) → end ≤ x → f x ≡ false) →
+    Bounded (λ x. f x || inCut x (cut·.Columns l r)) first end
+bounded-more f l r first end o p q before past = record {
   ordered = o;
-  clear-before = λ x m. getD-set-other far l x (max (getD far l 0) e) 0 (λ q. omega arith) ∙ k x m;
-  none-past = set-low far l (max (getD far l 0) e) end′ (omega (arith, b .none-past l)) (λ x. omega (arith, b .none-past x));
+  clear-before = λ x h. neither (before x h) (cut-before l r x (omega arith));
+  clear-past = λ x h. neither (past x h) (cut-past l r x (omega arith));
 }
 
--- an end of 0 says that the array is clear
-clear-all : {far : List ℕ} {first end : ℕ} → Bounded far first end → end ≤ 0 → (x : ℕ) → getD far x 0 ≡ 0
-clear-all b h x = omega (arith, b .none-past x)
-
--- one cut more, whose columns lie in the raster: the bounds hold it too, and they end in the raster
-module _ (far : List ℕ) (b : Bounds) (columns : ℕ) (h : Bounded far (b .first) (b .end)) (k : b .end ≤ columns) where
-  bounded-wider : (c : Cut) → Below columns c → Bounded (farther far c) (wider b c .first) (wider b c .end) × (wider b c .end ≤ columns)
-  bounded-wider cut·.Nothing w = (h, k)
+-- ---- cut by cut, where all lie in the raster
+module _ (f : ℕ → Bool) (b : Bounds) (columns : ℕ) (h : Bounded f (b .first) (b .end)) (k : b .end ≤ columns) where
+  bounded-wider : (c : Cut) → Below columns c → Bounded (λ x. f x || inCut x c) (wider b c .first) (wider b c .end) × (wider b c .end ≤ columns)
+  bounded-wider cut·.Nothing w = (bounded-ext (λ x. or-false (f x)) h, k)
   bounded-wider (cut·.Columns l r) w = go (ltb 0 (b .end)) refl
     where
       go : (t : Bool) → ltb 0 (b .end) ≡ t →
           let m : Bounds = cond t (record { first = min (b .first) l; end = max (b .end) (suc r) }) (record { first = l; end = suc r }) in
-          Bounded (farther far (cut·.Columns l r)) (m .first) (m .end) × (m .end ≤ columns)
+          Bounded (λ x. f x || inCut x (cut·.Columns l r)) (m .first) (m .end) × (m .end ≤ columns)
       go true e =
-          let m = bounded-marked l (suc r) (min (b .first) l) (max (b .end) (suc r)) h (omega (arith, w l r refl)) (omega arith) (omega arith) (omega arith) (λ x q. h .clear-before x (omega arith)) in
-          (m, omega (arith, w l r refl))
+          let i = w l r refl in
+          let m = bounded-more f l r (min (b .first) l) (max (b .end) (suc r)) (omega arith) (omega arith) (omega arith) in
+          (m (λ x q. h .clear-before x (omega arith)) (λ x q. h .clear-past x (omega arith)), omega arith)
       go false e =
           let z = ltb-false 0 (b .end) e in
-          (bounded-marked l (suc r) l (suc r) h (omega (arith, w l r refl)) (omega arith) (omega arith) (omega arith) (λ x q. clear-all h z x), omega (arith, w l r refl))
+          let i = w l r refl in
+          (bounded-more f l r l (suc r) (omega arith) (omega arith) (omega arith) (λ x q. h .clear-past x (omega arith)) (λ x q. h .clear-past x (omega arith)), omega arith)
 
-  pub bounded-next : (c : Cut) {far′ : List ℕ} {b′ : Bounds} → Below columns c → far′ ≡ farther far c → b′ ≡ wider b c →
-      Bounded far′ (b′ .first) (b′ .end) × (b′ .end ≤ columns)
-  bounded-next c w e f = rw (e, f) (bounded-wider c w)
+-- all cuts of a list
+bounded-all : (cs : List Cut) (f : ℕ → Bool) (b : Bounds) (columns : ℕ) → Bounded f (b .first) (b .end) → b .end ≤ columns → ((c : Cut) → c ∈ cs → Below columns c) →
+    Bounded (λ x. f x || blackCut cs x) (boundsOf cs b .first) (boundsOf cs b .end) × (boundsOf cs b .end ≤ columns)
+unfolding boundsOf
+bounded-all [] f b columns h k i = (bounded-ext (λ x. or-false (f x)) h, k)
+bounded-all (c ∷ cs) f b columns h k i =
+    let m = bounded-wider f b columns h k c (i c (head refl)) in
+    let n = bounded-all cs (λ x. f x || inCut x c) (wider b c) columns (m .0) (m .1) (λ c q. i c (tail q)) in
+    (bounded-ext (λ x. sym (or-assoc (f x) (inCut x c) (blackCut cs x))) (n .0), n .1)
 
--- all cuts of a list that lie in the raster
-pub bounded-all : (cs : List Cut) (far : List ℕ) (b : Bounds) (columns : ℕ) → Bounded far (b .first) (b .end) → b .end ≤ columns → ((c : Cut) → c ∈ cs → Below columns c) →
-    Bounded (farOf cs far) (boundsOf cs b .first) (boundsOf cs b .end) × (boundsOf cs b .end ≤ columns)
-unfolding farOf boundsOf
-bounded-all [] far b columns h k i = (h, k)
-bounded-all (c ∷ cs) far b columns h k i =
-    let m = bounded-next far b columns h k c (i c (head refl)) refl refl in
-    bounded-all cs (farther far c) (wider b c) columns (m .0) (m .1) (λ c q. i c (tail q))
+-- and none before it
+pub bounds-hold : (cs : List Cut) (columns : ℕ) → ((c : Cut) → c ∈ cs → Below columns c) →
+    Bounded (blackCut cs) (boundsOf cs unbounded .first) (boundsOf cs unbounded .end) × (boundsOf cs unbounded .end ≤ columns)
+bounds-hold cs columns = bounded-all cs (λ _. false) unbounded columns (record { ordered = omega arith; clear-before = λ x h. refl; clear-past = λ x h. refl }) (omega arith)
 
 -- ---- one cut after the other, for a loop
 pub bounds-step : (l : List Cut) (k : ℕ) (b : Bounds) → k < length l → boundsOf (drop k l) b ≡ boundsOf (drop (suc k) l) (wider b (getD l k cut·.Nothing))
@@ -87,23 +89,3 @@ wider-some b l r h e f = rw (lt-ltb 0 (b .end) h, e, f, add-one r)
 
 pub wider-new : (b : Bounds) (l r : ℕ) → b .end ≤ 0 → _≡_ {A = Bounds} (record { first = l; end = r + 1 }) (wider b (cut·.Columns l r))
 wider-new b l r h = rw (le-ltb 0 (b .end) h, add-one r)
-
--- ---- outside the bounds
-module _ {far : List ℕ} {first end : ℕ} (h : Bounded far first end) where
-  -- before them nothing is reached
-  pub reach-clear : (x : ℕ) → x < first → reachTo far x ≡ 0
-  unfolding reachTo
-  reach-clear zero k = h .clear-before 0 k
-  reach-clear (suc x) k = ap₂ max (reach-clear x (omega arith)) (h .clear-before (suc x) k)
-
-  pub black-clear : (x : ℕ) → x < first → blackFar far x ≡ false
-  black-clear x k = le-ltb x (reachTo far x) (omega (arith, reach-clear x k))
-
-  -- and nothing goes past them
-  reach-most : (x : ℕ) → reachTo far x ≤ end
-  unfolding reachTo
-  reach-most zero = h .none-past 0
-  reach-most (suc x) = omega (arith, reach-most x, h .none-past (suc x))
-
-  pub black-past : (x : ℕ) → end ≤ x → blackFar far x ≡ false
-  black-past x k = le-ltb x (reachTo far x) (omega (arith, reach-most x))

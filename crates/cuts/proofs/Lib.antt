@@ -2,12 +2,12 @@
 --   Raster    the cuts of a path's segments lie within the raster, and blacken its columns as the segments do
 --   Segments  the segments of a path by its entries, and within document 01's limits where the path is
 --   Touches   what the cuts come to where none of them, or one, has a column
---   Marked    a row put together in an array: its black columns are those of the cuts
 --   Between   the bounds of the cuts: no column outside them is black
+--   Laid      the cuts laid over bytes, one after the other
 --   Together  a row by its cuts, for the callers
 pub mod Raster
 pub mod Segments
 pub mod Touches
-pub mod Marked
 pub mod Between
+pub mod Laid
 pub mod Together

@@ -1,5 +1,4 @@
--- A row by its cuts, for the callers: which columns are black where no segment touches the row, where one does, and where several are put together in
--- an array that was clear.
+-- A row by its cuts, for the callers: which columns are black where no segment touches the row, where one does, and where the cuts are laid over bytes.
 use mathlib.Core.Path.{_≡_, refl, sym, ap, _∙_, subst}
 use mathlib.Core.Bool.{true, false, _&&_}
 use mathlib.Core.List.{List}
@@ -10,20 +9,22 @@ use lib.Dec.{leb}
 use lib.IntN.{pos}
 use lib.ListN.{length, replicate, length-replicate}
 use Rattle.integers.proofs.Tests.{and-true}
-use Rattle.integers.specs.Count.{_∈_}
 use Rattle.plane.specs.Point.{Pt}
-use Rattle.limits.specs.Sizes.{rasterMax, isSize, Size}
+use Rattle.limits.specs.Sizes.{isSize, Size}
 use Rattle.limits.proofs.Sizes.{size-iff}
+use Rattle.bits.specs.Bits.{packedLength, packed, bitAt, laidOver}
+use Rattle.bits.proofs.Bytes.{packed-ext}
+use Rattle.bits.proofs.Blackened.{blackened-packed, blackened-clear}
 use Rattle.stroke.specs.Sweep.{segments}
 use Rattle.stroke.specs.Runs.{blackAt}
 use Rattle.cuts.specs.declared.Bounds.{Bounds}
 use Rattle.cuts.specs.declared.cut.Cut.{Cut}
 use Rattle.cuts.specs.declared.Touch.the-variants as touch·
-use Rattle.cuts.specs.Cuts.{cuts, Below, touchOf, touchIn, farOf, boundsOf, unbounded, Together, together, Bounded, blackCut, blackFar}
-use Rattle.cuts.proofs.Marked.{black-far}
-use Rattle.cuts.proofs.Raster.{Near, cuts-below, below-more, black-cut}
+use Rattle.cuts.specs.Cuts.{cuts, touchOf, touchIn, boundsOf, unbounded, Laid, laid, Bounded, blackCut}
+use Rattle.cuts.proofs.Raster.{Near, cuts-below, black-cut}
 use Rattle.cuts.proofs.Touches.{untouched-black, one-black, one-in}
-use Rattle.cuts.proofs.Between.{clear-at, bounded-none, bounded-all}
+use Rattle.cuts.proofs.Between.{bounded-ext, bounds-hold}
+use Rattle.cuts.proofs.Laid.{black-past}
 
 -- ---- by the tests of the code
 module _ (cs path : List Pt) (columns j : ℕ) where
@@ -35,47 +36,28 @@ module _ (cs path : List Pt) (columns j : ℕ) where
   unfolding touchIn
   touch-some e = rw (touchIn, e)
 
-  pub together-none : (far : List ℕ) {b : Bounds} → (isSize columns && leb columns (length far)) ≡ false → b ≡ unbounded → record { far = far; bounds = b } ≡ together cs path columns j far
-  unfolding together
-  together-none far e f = rw (together, e, f)
+  pub laid-not : (b : List ℕ) {u : Bounds} → (isSize columns && leb (packedLength columns) (length b)) ≡ false → u ≡ unbounded → record { bytes = b; bounds = u } ≡ laid cs path columns j b
+  unfolding laid
+  laid-not b e f = rw (laid, e, f)
 
-  pub together-some : (far : List ℕ) {far′ : List ℕ} {b : Bounds} → (isSize columns && leb columns (length far)) ≡ true →
-      far′ ≡ farOf (cuts cs path columns j) far → b ≡ boundsOf (cuts cs path columns j) unbounded → record { far = far′; bounds = b } ≡ together cs path columns j far
-  unfolding together
-  together-some far e f g = rw (together, e, f, g)
+  pub laid-all : (b : List ℕ) {c : List ℕ} {u : Bounds} → (isSize columns && leb (packedLength columns) (length b)) ≡ true →
+      c ≡ laidOver b (packed (blackCut (cuts cs path columns j)) columns) → u ≡ boundsOf (cuts cs path columns j) unbounded → record { bytes = c; bounds = u } ≡ laid cs path columns j b
+  unfolding laid
+  laid-all b e f g = rw (laid, e, f, g)
 
 -- ---- a raster of a size that is allowed
 module _ (cs path : List Pt) (columns j : ℕ) (s : Size columns) where
-  -- the row's cuts, and where they are put together: an array that is clear and long enough
   row-cuts : List Cut
   row-cuts = cuts cs path columns j
-
-  blank : List ℕ
-  blank = replicate rasterMax 0
-
-  long-enough : columns ≤ length blank
-  unfolding blank
-  long-enough = omega (arith, length-replicate {A = ℕ} rasterMax 0)
 
   touches : touchIn cs path columns j ≡ touchOf row-cuts touch·.Untouched
   unfolding row-cuts
   touches = sym (touch-some cs path columns j (size-iff columns .1 s))
 
-  fills : together cs path columns j blank ≡ record { far = farOf row-cuts blank; bounds = boundsOf row-cuts unbounded }
+  -- bytes that are enough for the raster
+  fills : (b : List ℕ) → packedLength columns ≤ length b → laid cs path columns j b ≡ record { bytes = laidOver b (packed (blackCut row-cuts) columns); bounds = boundsOf row-cuts unbounded }
   unfolding row-cuts
-  fills = sym (together-some cs path columns j blank (and-true _ _ (size-iff columns .1 s) (le-leb columns (length blank) long-enough)) refl refl)
-
-  within : (c : Cut) → c ∈ row-cuts → Below rasterMax c
-  unfolding row-cuts
-  within c m = below-more (s .few) (cuts-below cs path columns j c m)
-
-  -- ---- the bounds of an array in which a row was put together
-  pub together-bounded : {far : List ℕ} {b : Bounds} → record { far = far; bounds = b } ≡ together cs path columns j (replicate rasterMax 0) → Bounded far (b .first) (b .end) × (b .end ≤ columns)
-  unfolding row-cuts blank
-  together-bounded {far} {b} e =
-      let f = e ∙ fills in
-      let m = bounded-all row-cuts blank unbounded columns (bounded-none blank (clear-at rasterMax)) (omega arith) (cuts-below cs path columns j) in
-      subst (λ (t : Together). Bounded (t .far) (t .bounds .first) (t .bounds .end) × (t .bounds .end ≤ columns)) (sym f) m
+  fills b h = sym (laid-all cs path columns j b (and-true _ _ (size-iff columns .1 s) (le-leb (packedLength columns) (length b) h)) refl refl)
 
   -- ---- which columns are black, of a path within document 01's limits
   module _ (n : Near (segments path) j) where
@@ -89,11 +71,33 @@ module _ (cs path : List Pt) (columns j : ℕ) (s : Size columns) where
     pub touched-once : (a b : ℕ) → touchIn cs path columns j ≡ touch·.One a b → (x : ℕ) → x < columns → blackAt cs path (pos j) (pos x) ≡ (leb a x && leb x b)
     touched-once a b e x h = by-cuts x h ∙ one-black row-cuts a b (sym touches ∙ e) x
 
-    pub in-array : {far : List ℕ} {b : Bounds} → record { far = far; bounds = b } ≡ together cs path columns j (replicate rasterMax 0) →
-        (x : ℕ) → x < columns → blackFar far x ≡ blackAt cs path (pos j) (pos x)
-    unfolding blank
-    in-array e x h =
-        ap (λ (t : Together). blackFar (t .far) x) (e ∙ fills) ∙ black-far row-cuts rasterMax x within (omega arith) ∙ sym (by-cuts x h)
+    -- laid over bytes, the row is that of the path
+    pub laid-row : (b : List ℕ) {c : List ℕ} {u : Bounds} → packedLength columns ≤ length b → record { bytes = c; bounds = u } ≡ laid cs path columns j b →
+        c ≡ laidOver b (packed (λ x. blackAt cs path (pos j) (pos x)) columns)
+    laid-row b h e = ap (λ (t : Laid). t .bytes) (e ∙ fills b h) ∙ ap (laidOver b) (packed-ext (λ x k. sym (by-cuts x k)))
+
+  -- ---- laid over clear bytes
+  module _ (n : ℕ) (h : packedLength columns ≤ n) {c : List ℕ} {u : Bounds} (e : record { bytes = c; bounds = u } ≡ laid cs path columns j (replicate n 0)) where
+    alone : _≡_ {A = Laid} (record { bytes = c; bounds = u }) (record { bytes = laidOver (replicate n 0) (packed (blackCut row-cuts) columns); bounds = boundsOf row-cuts unbounded })
+    alone = e ∙ fills (replicate n 0) (omega (arith, length-replicate {A = ℕ} n 0))
+
+    -- their black columns are those of the cuts
+    bits-are : (x : ℕ) → bitAt c x ≡ blackCut row-cuts x
+    unfolding row-cuts
+    bits-are x =
+        ap (λ (t : Laid). bitAt (t .bytes) x) alone
+        ∙ ap (λ (b : List ℕ). bitAt b x) (blackened-packed (blackCut row-cuts) columns (replicate n 0) (black-past row-cuts columns (cuts-below cs path columns j)))
+        ∙ blackened-clear (blackCut row-cuts) n x (λ k. black-past row-cuts columns (cuts-below cs path columns j) x (omega arith))
+
+    -- none outside the bounds
+    pub laid-bounded : Bounded (bitAt c) (u .first) (u .end) × (u .end ≤ columns)
+    unfolding row-cuts
+    laid-bounded =
+        let m = bounds-hold row-cuts columns (cuts-below cs path columns j) in
+        subst (λ (t : Laid). Bounded (bitAt c) (t .bounds .first) (t .bounds .end) × (t .bounds .end ≤ columns)) (sym alone) (bounded-ext bits-are (m .0), m .1)
+
+    pub laid-black : Near (segments path) j → (x : ℕ) → x < columns → bitAt c x ≡ blackAt cs path (pos j) (pos x)
+    laid-black near x k = bits-are x ∙ sym (by-cuts near x k)
 
   -- the one cut lies within the raster
   pub once-in : (a b : ℕ) → touchIn cs path columns j ≡ touch·.One a b → (a ≤ b) × (b < columns)

@@ -1,16 +1,17 @@
--- How the code goes about a row: each segment's extent is cut to the raster, and a row that several segments touch is put together in an array.
--- `black-cut` and `black-far` (proofs/Raster, Marked) say that it comes to the same as `blackAt`.
-use Prim.Native.Nat.{ℕ, zero, suc, _+_, _*_, _≤_, _<_, min, max}
+-- How the code goes about a row: each segment's extent is cut to the raster, and laid over the bytes of a packed row. `black-cut` and `laid-row`
+-- (proofs/Raster, Together) say that it comes to the same as `blackAt`.
+use Prim.Native.Nat.{ℕ, suc, _+_, _*_, _≤_, _<_, min, max}
 use mathlib.Core.Path.{_≡_}
 use mathlib.Core.Bool.{Bool, true, false, cond, _&&_}
 use mathlib.Core.List.{List, [], _∷_, map}
 use lib.Dec.{leb, ltb}
-use lib.ListN.{length, getD, set}
+use lib.ListN.{length, getD}
 use lib.IntN.{ℤ, pos, natAbs, _-ℤ_}
 use lib.Signed.{leZ}
 use Rattle.integers.specs.Compare.{minZ, maxZ}
 use Rattle.plane.specs.Point.{Pt, corners}
 use Rattle.limits.specs.Sizes.{isSize}
+use Rattle.bits.specs.Bits.{packedLength, packed, laidOver}
 use Rattle.stroke.specs.Sweep.{Seg, segments, pathPoints}
 use Rattle.extent.specs.declared.Extent.{Extent}
 use Rattle.extent.specs.declared.Extent.the-variants as extent·
@@ -74,15 +75,6 @@ touchOf (c ∷ cs) t = touchOf cs (touched t c)
 unfoldable pub touchIn : List Pt → List Pt → ℕ → ℕ → Touch
 touchIn cs path columns j = elim (isSize columns) [ true ↦ touchOf (cuts cs path columns j) touch·.Untouched | false ↦ touch·.Untouched ]
 
--- far[l] is one past the furthest right end of the cuts that start at column l, and 0 where none does
-abbrev pub farther : List ℕ → Cut → List ℕ
-farther far cut·.Nothing = far
-farther far (cut·.Columns l r) = set far l (max (getD far l 0) (suc r))
-
-unfoldable pub farOf : List Cut → List ℕ → List ℕ
-farOf [] far = far
-farOf (c ∷ cs) far = farOf cs (farther far c)
-
 -- the bounds of the cuts so far and one more; an end of 0 says that there is none so far
 abbrev pub wider : Bounds → Cut → Bounds
 wider b cut·.Nothing = b
@@ -96,29 +88,21 @@ boundsOf (c ∷ cs) b = boundsOf cs (wider b c)
 abbrev pub unbounded : Bounds
 unbounded = record { first = 0; end = 0 }
 
--- the array and the bounds
-pub record Together : Type 0 where
-  pub far : List ℕ
+-- bytes with cuts laid over them, and the bounds of the cuts
+pub record Laid : Type 0 where
+  pub bytes : List ℕ
   pub bounds : Bounds
 
--- the cuts of a path's segments in row j, put into an array; nothing where it is too short for the raster
-unfoldable pub together : List Pt → List Pt → ℕ → ℕ → List ℕ → Together
-together cs path columns j far = elim (isSize columns && leb columns (length far)) [
-  | true ↦ record { far = farOf (cuts cs path columns j) far; bounds = boundsOf (cuts cs path columns j) unbounded }
-  | false ↦ record { far = far; bounds = unbounded }
+-- the packed row of the cuts of a path's segments in row j, laid over bytes, so that each bit is the old one or black; nothing where they are too few for
+-- the raster
+unfoldable pub laid : List Pt → List Pt → ℕ → ℕ → List ℕ → Laid
+laid cs path columns j b = elim (isSize columns && leb (packedLength columns) (length b)) [
+  | true ↦ record { bytes = laidOver b (packed (blackCut (cuts cs path columns j)) columns); bounds = boundsOf (cuts cs path columns j) unbounded }
+  | false ↦ record { bytes = b; bounds = unbounded }
 ]
 
--- every cut in the array starts at column `first` or after it and ends before column `end`
-pub record Bounded (far : List ℕ) (first end : ℕ) : Type 0 where
+-- no column before `first` is black, and none from `end` on
+pub record Bounded (black : ℕ → Bool) (first end : ℕ) : Type 0 where
   pub ordered : first ≤ end
-  pub clear-before : (x : ℕ) → x < first → getD far x 0 ≡ 0
-  pub none-past : (x : ℕ) → getD far x 0 ≤ end
-
--- the furthest that any cut that starts at column x or before it goes
-unfoldable pub reachTo : List ℕ → ℕ → ℕ
-reachTo far zero = getD far 0 0
-reachTo far (suc x) = max (reachTo far x) (getD far (suc x) 0)
-
--- column x is black by the array
-abbrev pub blackFar : List ℕ → ℕ → Bool
-blackFar far x = ltb x (reachTo far x)
+  pub clear-before : (x : ℕ) → x < first → black x ≡ false
+  pub clear-past : (x : ℕ) → end ≤ x → black x ≡ false

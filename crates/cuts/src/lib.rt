@@ -1,18 +1,19 @@
 // The segments of a path in one row.
 //
-// The way of the data: each segment's columns are cut to the raster (cut), and most rows are touched
-// by no segment or by one. Where several touch a row, their columns are put together in an array
-// (far). What each function promises is cited from specs/.
+// The way of the data: each segment's columns are cut to the raster (cut), and laid over the bytes
+// of a row (over). Most rows are touched by no segment or by one, which can be known before. What
+// each function promises is cited from specs/.
 ghost use mathlib.Core.Path.{_≡_};
 ghost use mathlib.Core.Bool.{_&&_};
 ghost use lib.Dec.{leb};
 ghost use Rattle.plane.specs.Point.{corners};
 ghost use Rattle.limits.specs.Sizes.{isSize};
+ghost use Rattle.bits.specs.Bits.{packedLength};
 ghost use Rattle.stroke.specs.Sweep.{pathPoints};
-ghost use Rattle.cuts.specs.Cuts.{Together, touchIn, together};
+ghost use Rattle.cuts.specs.Cuts.{touchIn, Laid, laid};
 
 mod cut;
-mod far;
+mod over;
 
 // How many segments touch the row: none, one, with its columns, or several.
 pub enum Touch {
@@ -21,8 +22,8 @@ pub enum Touch {
     Several,
 }
 
-// No cut so far starts before column `first`, and none goes to column `end` or past it. Where there
-// is no cut both are 0.
+// No cut starts before column `first`, and none goes to column `end` or past it. Where there is no
+// cut both are 0.
 pub struct Bounds {
     pub first: usize,
     pub end: usize,
@@ -46,10 +47,10 @@ pub fn touching<'a>(
     cut::first_touches(xs, ys, count, path, columns, row)
 }
 
-// The columns of all segments, put together in the array after what it holds, and their bounds.
-// Nothing is done where the array is too short for the raster.
-pub fn put_together<'a>(
-    far: &mut [u16],
+// The packed row of all segments laid over the bytes: each bit is the old one or black. Answers the
+// bounds of the black columns. Nothing is done where the bytes are too few for the raster.
+pub fn lay_over<'a>(
+    bytes: &mut [u8],
     xs: &'a [i8],
     ys: &'a [i8],
     count: usize,
@@ -57,18 +58,18 @@ pub fn put_together<'a>(
     columns: usize,
     row: u64,
 ) -> Bounds
-    ensures { λ r. ⌜ _≡_ {A = Together} (record { far = now (far .exit); bounds = r })
-        (together (corners count (now (xs .entry)) (now (ys .entry))) (pathPoints (now (path .entry))) columns row (now (far .entry))) ⌝ }
+    ensures { λ r. ⌜ _≡_ {A = Laid} (record { bytes = now (bytes .exit); bounds = r })
+        (laid (corners count (now (xs .entry)) (now (ys .entry))) (pathPoints (now (path .entry))) columns row (now (bytes .entry))) ⌝ }
 {
-    if !serves(columns, far.len()) {
+    if !serves(columns, bytes.len()) {
         return Bounds { first: 0, end: 0 };
     }
-    far::gather(far, xs, ys, count, path, columns, row)
+    over::lay_cuts(bytes, xs, ys, count, path, columns, row)
 }
 
-// Whether an array of so many places serves a raster of so many columns.
+// Whether so many bytes serve a raster of so many columns.
 fn serves(columns: usize, length: usize) -> bool
-    ensures { λ r. ⌜ r ≡ (isSize columns && leb columns length) ⌝ }
+    ensures { λ r. ⌜ r ≡ (isSize columns && leb (packedLength columns) length) ⌝ }
 {
-    limits::is_size(columns as u64) && columns <= length
+    limits::is_size(columns as u64) && bits::length_of(columns) <= length
 }

@@ -17,8 +17,9 @@ use Rattle.stroke.specs.Runs.{blackAt}
 use Rattle.stroke.specs.Sweep.{centre, pathPoints}
 use Rattle.stroke.specs.Black.{BlackPath}
 use Rattle.stroke.proofs.Path.{black-path}
-use Rattle.packed.specs.Packed.{packed, packedLength}
-use Rattle.packed.proofs.PackedRow.{packed-length, packed-bit, packed-small}
+use Rattle.bits.specs.Bits.{packed, packedLength}
+use Rattle.bits.proofs.Tests.{one-of, first-of, second-of, bit-set}
+use Rattle.bits.proofs.Bytes.{packed-length, packed-bit, packed-small}
 use Rattle.pbm.specs.Pbm.{decimal, header, topFirst}
 use Rattle.pbm.proofs.Theorems.{decimal-reads, top-first}
 use Rattle.drawing.specs.Strokes.{Drawing, pathOf}
@@ -67,18 +68,6 @@ small-rows zero row h k = omega arith
 small-rows (suc n) row h k = small-append (row n) (topFirst n row) (h n (omega arith)) (small-rows n row (λ j l. h j (omega arith))) k
 
 -- ---- some stroke
-one-of : (a b : Bool) → (a || b) ≡ true → (a ≡ true) ⊎ (b ≡ true)
-one-of true b h = inl refl
-one-of false b h = inr h
-
-first-of : (a b : Bool) → a ≡ true → (a || b) ≡ true
-first-of true b h = refl
-first-of false b h = absurd (clash h refl)
-
-second-of : (a b : Bool) → b ≡ true → (a || b) ≡ true
-second-of true b h = refl
-second-of false b h = h
-
 -- the test finds a number exactly when there is one
 found : (f : ℕ → Bool) (n : ℕ) → anyBelow f n ≡ true → (k : ℕ) × (k < n) × (f k ≡ true)
 unfolding anyBelow
@@ -97,12 +86,6 @@ there f (suc n) k h e = go (ltb k n) refl (there f n k)
     go : (t : Bool) → ltb k n ≡ t → (k < n → f k ≡ true → anyBelow f n ≡ true) → (anyBelow f n || f n) ≡ true
     go true q r = first-of (anyBelow f n) (f n) (r (ltb-true k n q) e)
     go false q r = let l : k ≡ n = omega (arith, ltb-false k n q) in second-of (anyBelow f n) (f n) (subst (λ (i : ℕ). f i ≡ true) l e)
-
--- a bit is 1 when both of its tests are passed
-bit-set : (t u : Bool) → (_≡_ {A = ℕ} (cond (t && u) 1 0) 1) ↔ ((t ≡ true) × (u ≡ true))
-bit-set true true = ((λ _. (refl, refl)), λ _. refl)
-bit-set true false = ((λ e. absurd (omega (arith, e))), λ h. absurd (clash (h .1) refl))
-bit-set false u = ((λ e. absurd (omega (arith, e))), λ h. absurd (clash (h .0) refl))
 
 -- ---- a drawing whose strokes all pass
 module _ (d : Drawing) (columns rows : ℕ) (s : DrawableFilm d columns rows) where

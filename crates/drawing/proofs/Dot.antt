@@ -19,7 +19,7 @@ use Rattle.checks.specs.Checks.{coordinateFrom}
 use Rattle.stroke.specs.Runs.{blackAt}
 use Rattle.limits.specs.declared.Verdict.the-variants.{Passed}
 use Rattle.stroke.specs.Sweep.{pathPoints}
-use Rattle.packed.specs.Packed.{bitsFrom, bytesFrom, packed}
+use Rattle.bits.specs.Bits.{bitsFrom, bytesFrom, packed}
 use Rattle.pbm.specs.Pbm.{lastDigits, header, topFirst, file}
 use Rattle.drawing.specs.Settings.{tabledFrom}
 use Rattle.drawing.specs.Strokes.{pathOf, firstFrom, filmVerdict}

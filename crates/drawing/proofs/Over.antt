@@ -6,22 +6,12 @@ use mathlib.Core.List.{List, [], _∷_, _++_}
 use lib.Bits.{bitOr}
 use lib.ListN.{length, take, getD, set, replicate}
 use lib.Seq.{take-all, take-nil}
-use Rattle.drawing.specs.Film.{laidOver}
+use Rattle.bits.specs.Bits.{laidOver}
+use Rattle.bits.proofs.Over.{over-nil}
 
 pub replicate-snoc : (n a : ℕ) → replicate n a ++ (a ∷ []) ≡ replicate (suc n) a
 replicate-snoc zero a = refl
 replicate-snoc (suc n) a = ap (λ (l : List ℕ). a ∷ l) (replicate-snoc n a)
-
-pub over-nil : (d : List ℕ) → laidOver d [] ≡ d
-unfolding laidOver
-over-nil [] = refl
-over-nil (x ∷ d) = refl
-
-pub over-length : (d s : List ℕ) → length (laidOver d s) ≡ length d
-unfolding laidOver
-over-length [] s = refl
-over-length (x ∷ d) [] = refl
-over-length (x ∷ d) (y ∷ s) = ap suc (over-length d s)
 
 pub over-step : (d s : List ℕ) (i : ℕ) → i < length d → i < length s →
     set (laidOver d (take i s)) i (bitOr (getD (laidOver d (take i s)) i 0) (getD s i 0)) ≡ laidOver d (take (suc i) s)

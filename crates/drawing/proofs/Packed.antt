@@ -1,11 +1,10 @@
 -- Packed rows laid over each other are the packed row of what any of them has black.
-use Prim.Native.Nat.{ℕ, zero, suc, _+_, _*_, _/_, _%_, _≤_, _<_, max}
+use Prim.Native.Nat.{ℕ, zero, suc, _≤_, _<_}
 use native.Mathlib.Omega.{arith}
-use mathlib.Core.Path.{_≡_, refl, sym, ap, _∙_}
-use mathlib.Core.Bool.{Bool, true, false, cond, _&&_, _||_}
+use mathlib.Core.Path.{_≡_, sym, ap, _∙_}
+use mathlib.Core.Bool.{Bool, true, false, _||_}
 use mathlib.Core.List.{List, _++_, append-nil}
-use lib.Bits.{bitOr, or-step}
-use lib.Dec.{leb, ltb}
+use lib.Dec.{leb}
 use lib.ListN.{length, getD, replicate, length-replicate, drop-of-length-le}
 use lib.IntN.{ℤ, pos}
 use borrow.Author.Tests.{le-leb}
@@ -18,66 +17,15 @@ use Rattle.limits.specs.declared.Verdict.the-variants.{Passed}
 use Rattle.checks.specs.Checks.{verdict}
 use Rattle.checks.specs.Answer.{Result}
 use Rattle.stroke.specs.Sweep.{pathPoints}
-use Rattle.packed.specs.Packed.{bitsFrom, bytesFrom, packed, packedLength, packResult, packedCall}
-use Rattle.packed.proofs.PackedRow.{packed-length}
+use Rattle.bits.specs.Bits.{packed, packedLength, laidOver}
+use Rattle.bits.proofs.Bytes.{packed-length, packed-clear}
+use Rattle.bits.proofs.Over.{over-packed}
+use Rattle.packed.specs.Packed.{packResult, packedCall}
 use Rattle.packed.proofs.Stored.{packed-call-is}
 use Rattle.aperture.specs.Reachable.{Holds}
 use Rattle.drawing.specs.Strokes.{Drawing, pathOf}
-use Rattle.drawing.specs.Film.{laidOver, added, rowUpTo, rowOf}
+use Rattle.drawing.specs.Film.{added, rowUpTo, rowOf}
 use Rattle.drawing.specs.Theorems.{settingOf, DrawableFilm}
-
--- one bit more at the end of two numbers
-halves : (a : ℕ) (x : Bool) → ((2 * a + cond x 1 0) / 2 ≡ a) × ((2 * a + cond x 1 0) % 2 ≡ cond x 1 0)
-halves a true = (omega arith, omega arith)
-halves a false = (omega arith, omega arith)
-
-either : (x y : Bool) → max (cond x 1 0) (cond y 1 0) ≡ cond (x || y) 1 0
-either true true = refl
-either true false = refl
-either false true = refl
-either false false = refl
-
-or-bit : (a b : ℕ) (x y : Bool) → bitOr (2 * a + cond x 1 0) (2 * b + cond y 1 0) ≡ 2 * bitOr a b + cond (x || y) 1 0
-or-bit a b x y =
-    let p = halves a x in
-    let q = halves b y in
-    or-step (2 * a + cond x 1 0) (2 * b + cond y 1 0) ∙ rw (p .0, p .1, q .0, q .1, either x y) (omega arith)
-
-or-bits : (f g h : ℕ → Bool) → ((x : ℕ) → (f x || g x) ≡ h x) → (i k a b : ℕ) → bitOr (bitsFrom f i k a) (bitsFrom g i k b) ≡ bitsFrom h i k (bitOr a b)
-unfolding bitsFrom
-or-bits f g h e i zero a b = refl
-or-bits f g h e i (suc k) a b =
-    or-bits f g h e (suc i) k (2 * a + cond (f i) 1 0) (2 * b + cond (g i) 1 0) ∙ ap (bitsFrom h (suc i) k) (or-bit a b (f i) (g i) ∙ ap (λ (t : Bool). 2 * bitOr a b + cond t 1 0) (e i))
-
-or-bytes : (f g h : ℕ → Bool) → ((x : ℕ) → (f x || g x) ≡ h x) → (i n : ℕ) → laidOver (bytesFrom f i n) (bytesFrom g i n) ≡ bytesFrom h i n
-unfolding laidOver bytesFrom
-or-bytes f g h e i zero = refl
-or-bytes f g h e i (suc n) = rw (or-bits f g h e i 8 0 0, or-bytes f g h e (i + 8) n)
-
-shared : (a b c : Bool) → ((a && b) || (a && c)) ≡ (a && (b || c))
-shared true b c = refl
-shared false b c = refl
-
-pub over-packed : (f g : ℕ → Bool) (columns : ℕ) → laidOver (packed f columns) (packed g columns) ≡ packed (λ x. f x || g x) columns
-over-packed f g columns = or-bytes _ _ _ (λ x. shared (ltb x columns) (f x) (g x)) 0 (packedLength columns)
-
--- no pixel is black
-clear-bits : (f : ℕ → Bool) → ((x : ℕ) → f x ≡ false) → (i k : ℕ) → bitsFrom f i k 0 ≡ 0
-unfolding bitsFrom
-clear-bits f e i zero = refl
-clear-bits f e i (suc k) = rw (e i) (clear-bits f e (suc i) k)
-
-clear-bytes : (f : ℕ → Bool) → ((x : ℕ) → f x ≡ false) → (i n : ℕ) → bytesFrom f i n ≡ replicate n 0
-unfolding bytesFrom
-clear-bytes f e i zero = refl
-clear-bytes f e i (suc n) = rw (clear-bits f e i 8, clear-bytes f e (i + 8) n)
-
-nowhere : (a : Bool) → (a && false) ≡ false
-nowhere true = refl
-nowhere false = refl
-
-pub packed-clear : (columns : ℕ) → packed (λ x. false) columns ≡ replicate (packedLength columns) 0
-packed-clear columns = clear-bytes _ (λ x. nowhere (ltb x columns)) 0 (packedLength columns)
 
 -- ---- the row of a stroke whose aperture is in use and that passes the checks
 filled : (cs : List Pt) (p : List ℤ) (columns rows j : ℕ) → verdict p columns rows j ≡ Passed →

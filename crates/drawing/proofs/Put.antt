@@ -12,14 +12,14 @@ use Rattle.limits.specs.declared.Verdict.the-variants.{Passed}
 use Rattle.limits.proofs.Sizes.{size-iff}
 use Rattle.checks.specs.Checks.{rasterVerdict}
 use Rattle.checks.specs.Answer.{done}
-use Rattle.packed.specs.Packed.{packedLength}
+use Rattle.bits.specs.Bits.{packedLength}
 use Rattle.pbm.specs.Pbm.{decimal, header, topFirst, started, headerPut}
 use Rattle.pbm.proofs.Decimal.{size-few}
 use Rattle.pbm.proofs.Pieces.{header-length, raster-sizes}
 use Rattle.pbm.proofs.Theorems.{top-first}
 use Rattle.drawing.specs.Strokes.{Drawing}
 use Rattle.drawing.specs.Film.{rowUpTo, rowOf, film, filmLength, Raster}
-use Rattle.drawing.proofs.Over.{over-length}
+use Rattle.bits.proofs.Over.{over-length}
 
 -- ---- the length of a film
 row-long : (d : Drawing) (columns rows j width k : ℕ) → length (rowUpTo d columns rows j width k) ≡ width

@@ -15,7 +15,7 @@ use Rattle.stroke.specs.Extent.{narrowed, extent}
 use Rattle.limits.specs.Sizes.{inRange}
 use Rattle.stroke.specs.Runs.{blackAt}
 use Rattle.stroke.specs.Sweep.{pathPoints}
-use Rattle.packed.specs.Packed.{bitsFrom, bytesFrom, packed}
+use Rattle.bits.specs.Bits.{bitsFrom, bytesFrom, packed}
 use Rattle.pbm.specs.Pbm.{lastDigits, topFirst, file}
 use Rattle.drawing.specs.Settings.{tableOf}
 use Rattle.drawing.specs.Strokes.{Drawing}

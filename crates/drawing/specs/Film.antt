@@ -1,21 +1,15 @@
 -- The film of a drawing: the strokes' packed rows, laid over each other.
 use Prim.Native.Nat.{ℕ, zero, suc, _+_, _*_}
 use mathlib.Core.List.{List, [], _∷_}
-use lib.Bits.{bitOr}
 use lib.ListN.{length, getD, replicate}
 use lib.IntN.{ℤ}
 use Rattle.limits.specs.Sizes.{Size}
 use Rattle.aperture.specs.declared.Table.{Table}
 use Rattle.checks.specs.Answer.{Result, given}
-use Rattle.packed.specs.Packed.{packedLength, packedCall}
+use Rattle.bits.specs.Bits.{packedLength, laidOver}
+use Rattle.packed.specs.Packed.{packedCall}
 use Rattle.pbm.specs.Pbm.{header, file, fileOffer}
 use Rattle.drawing.specs.Strokes.{Drawing, pathOf, filmVerdict}
-
--- bytes with those of another row laid over them: black is 1, so a bit is 1 where either has it
-unfoldable pub laidOver : List ℕ → List ℕ → List ℕ
-laidOver [] s = []
-laidOver (d ∷ ds) [] = d ∷ ds
-laidOver (d ∷ ds) (s ∷ ss) = bitOr d s ∷ laidOver ds ss
 
 -- bytes with row j of one stroke laid over them
 abbrev pub added : Table → ℕ → List ℤ → ℕ → ℕ → ℕ → List ℕ → List ℕ

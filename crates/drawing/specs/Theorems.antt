@@ -20,7 +20,8 @@ use Rattle.stroke.specs.Sweep.{centre, pathPoints}
 use Rattle.stroke.specs.Black.{BlackPath}
 use Rattle.checks.specs.Checks.{verdict}
 use Rattle.checks.specs.Answer.{Result}
-use Rattle.packed.specs.Packed.{packedLength, packedCall}
+use Rattle.bits.specs.Bits.{packedLength}
+use Rattle.packed.specs.Packed.{packedCall}
 use Rattle.pbm.specs.Pbm.{header}
 use Rattle.pbm.specs.Theorems.{FileRefuses}
 use Rattle.drawing.specs.declared.Tabled.{Tabled}

@@ -5,7 +5,7 @@ ghost use mathlib.Core.Path.{_≡_};
 ghost use Prim.Native.Nat.{_*_};
 ghost use lib.ListN.{length, replicate};
 ghost use Rattle.limits.specs.Sizes.{Size};
-ghost use Rattle.packed.specs.Packed.{packedLength};
+ghost use Rattle.bits.specs.Bits.{packedLength};
 ghost use Rattle.pbm.specs.Pbm.{topFirst};
 ghost use Rattle.drawing.specs.Strokes.{drawingOf};
 ghost use Rattle.drawing.specs.Film.{rowOf, film, filmLength, Raster};

@@ -3,8 +3,9 @@ use crate::Sheet;
 use crate::strokes::span_of;
 ghost use mathlib.Core.Path.{_≡_};
 ghost use lib.ListN.{length, replicate};
+ghost use Rattle.bits.specs.Bits.{laidOver};
 ghost use Rattle.drawing.specs.Strokes.{drawingOf};
-ghost use Rattle.drawing.specs.Film.{laidOver, added, rowOf};
+ghost use Rattle.drawing.specs.Film.{added, rowOf};
 
 fn clear(b: &mut [u8])
     ensures { λ _. ⌜ now (b .exit) ≡ replicate (length (now (b .entry))) 0 ⌝ }

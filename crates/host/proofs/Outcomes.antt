@@ -24,7 +24,8 @@ use Rattle.checks.specs.Checks.{verdict, roomVerdict}
 use Rattle.checks.specs.Answer.{answerOf, Result, Offer, settled, given}
 use Rattle.checks.proofs.Verdicts.{verdict-passed, room-passed, room-refused}
 use Rattle.row.specs.Answer.{runsOffer, rowResult}
-use Rattle.packed.specs.Packed.{packedLength, packedOffer, packResult}
+use Rattle.bits.specs.Bits.{packedLength}
+use Rattle.packed.specs.Packed.{packedOffer, packResult}
 use Rattle.host.specs.Host.{coded, Outcome, told, runBytesOffer}
 use Rattle.host.specs.Call.{Fit, written, runsWith, packedWith, callWith, entriesVerdict}
 use Rattle.host.specs.declared.answer.Call.{Call}

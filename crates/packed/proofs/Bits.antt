@@ -1,7 +1,7 @@
 -- The bits of what a packed row leaves: those of the pixels that are black by existence; and the rest of the buffer.
 use Prim.Native.Nat.{ℕ, _+_, _*_, _/_, _%_, _-_, _^_, _<_}
-use mathlib.Core.Bool.{Bool, true, false, cond, _&&_}
-use mathlib.Core.Path.{_≡_, refl, sym, ap, _∙_}
+use mathlib.Core.Bool.{Bool, true, cond, _&&_}
+use mathlib.Core.Path.{_≡_, sym, ap, _∙_}
 use mathlib.Core.Logic.{_↔_}
 use mathlib.Core.List.{List, _++_}
 use native.Mathlib.Omega.{arith}
@@ -10,21 +10,16 @@ use lib.Dec.{ltb}
 use lib.ListN.{getD, drop, List·getD-append}
 use lib.Seq.{drop-at}
 use lib.IntN.{ℤ, pos}
-use Rattle.integers.proofs.Tests.{clash}
 use Rattle.stroke.specs.Runs.{blackAt}
 use Rattle.stroke.proofs.Path.{black-path}
 use Rattle.plane.specs.Point.{Pt}
 use Rattle.plane.specs.Polygon.{PenLaws}
 use Rattle.stroke.specs.Sweep.{centre, pathPoints}
 use Rattle.stroke.specs.Black.{BlackPath}
-use Rattle.packed.specs.Packed.{packed, packedLength, packedOver}
-use Rattle.packed.proofs.PackedRow.{packed-length, packed-bit}
-
--- a bit is 1 when both of its tests are passed
-bit-set : (t u : Bool) → (_≡_ {A = ℕ} (cond (t && u) 1 0) 1) ↔ ((t ≡ true) × (u ≡ true))
-bit-set true true = ((λ _. (refl, refl)), λ _. refl)
-bit-set true false = ((λ e. absurd (omega (arith, e))), λ h. absurd (clash (h .1) refl))
-bit-set false u = ((λ e. absurd (omega (arith, e))), λ h. absurd (clash (h .0) refl))
+use Rattle.bits.specs.Bits.{packed, packedLength}
+use Rattle.bits.proofs.Tests.{bit-set}
+use Rattle.bits.proofs.Bytes.{packed-length, packed-bit}
+use Rattle.packed.specs.Packed.{packedOver}
 
 -- the bit of a column in what a packed row leaves
 black-bit : (f : ℕ → Bool) (columns : ℕ) (rest : List ℕ) {after : List ℕ} → after ≡ packed f columns ++ rest → (k b : ℕ) → k < packedLength columns → b < 8 →

@@ -1,33 +1,34 @@
--- The bytes of a row where no segment touches it, where one does, and where several are put together in an array.
-use mathlib.Core.Path.{_≡_, sym, ap}
-use mathlib.Core.Bool.{Bool, false, _&&_}
+-- The bytes of a row that was cleared and that the segments were laid over: those of the columns that the path blackens.
+use mathlib.Core.Path.{_≡_, ap, _∙_}
+use mathlib.Core.Bool.{Bool, false}
 use mathlib.Core.List.{List, _++_}
-use Prim.Native.Nat.{ℕ}
-use lib.Dec.{leb}
-use lib.IntN.{ℤ}
-use lib.ListN.{drop, replicate}
-use Rattle.limits.specs.Sizes.{rasterMax, Drawable}
+use Prim.Native.Nat.{ℕ, _≤_}
+use native.Mathlib.Omega.{arith}
+use lib.IntN.{ℤ, pos}
+use lib.ListN.{length, drop, length-append}
+use Rattle.limits.specs.Sizes.{Drawable}
 use Rattle.plane.specs.Point.{Pt}
+use Rattle.bits.specs.Bits.{packedLength, packed, laidOver}
+use Rattle.bits.proofs.Bytes.{packed-length}
+use Rattle.bits.proofs.Over.{over-packed, over-front}
 use Rattle.stroke.specs.Sweep.{pathPoints}
+use Rattle.stroke.specs.Runs.{blackAt}
 use Rattle.cuts.specs.declared.Bounds.{Bounds}
-use Rattle.cuts.specs.declared.Touch.the-variants as touch·
-use Rattle.cuts.specs.Cuts.{touchIn, together, blackFar}
+use Rattle.cuts.specs.Cuts.{laid}
 use Rattle.cuts.proofs.Segments.{drawable-near}
-use Rattle.cuts.proofs.Together.{untouched, touched-once, in-array}
-use Rattle.packed.specs.Packed.{packed, packedLength, packedAtop, packedOver}
-use Rattle.packed.proofs.PackedRow.{packed-ext}
+use Rattle.cuts.proofs.Together.{laid-row}
+use Rattle.packed.specs.Packed.{packedAtop, packedOver}
 
-module _ (cs : List Pt) (p : List ℤ) (columns j : ℕ) (d : Drawable p columns j) (b : List ℕ) where
-  -- a row whose black columns are the path's
-  over : (f g : ℕ → Bool) → packed f columns ≡ packed g columns → packedAtop f columns b ≡ packedAtop g columns b
-  over f g e = ap (λ (l : List ℕ). l ++ drop (packedLength columns) b) e
+-- a row laid over a cleared one
+over-cleared : (f : ℕ → Bool) (columns : ℕ) (b : List ℕ) → laidOver (packedAtop (λ _. false) columns b) (packed f columns) ≡ packedAtop f columns b
+over-cleared f columns b =
+    over-front (packed (λ _. false) columns) (packed f columns) (drop (packedLength columns) b) (omega (arith, packed-length f columns, packed-length (λ _. false) columns))
+    ∙ ap (λ (l : List ℕ). l ++ drop (packedLength columns) b) (over-packed (λ _. false) f columns)
 
-  pub packed-untouched : touchIn cs (pathPoints p) columns j ≡ touch·.Untouched → packedAtop (λ _. false) columns b ≡ packedOver cs p columns j b
-  packed-untouched e = over _ _ (packed-ext (λ x k. sym (untouched cs (pathPoints p) columns j (d .size) (drawable-near d) e x k)))
-
-  pub packed-touched : (l r : ℕ) → touchIn cs (pathPoints p) columns j ≡ touch·.One l r → packedAtop (λ x. leb l x && leb x r) columns b ≡ packedOver cs p columns j b
-  packed-touched l r e = over _ _ (packed-ext (λ x k. sym (touched-once cs (pathPoints p) columns j (d .size) (drawable-near d) l r e x k)))
-
-  pub packed-array : {far : List ℕ} {u : Bounds} → record { far = far; bounds = u } ≡ together cs (pathPoints p) columns j (replicate rasterMax 0) →
-      packedAtop (blackFar far) columns b ≡ packedOver cs p columns j b
-  packed-array e = over _ _ (packed-ext (in-array cs (pathPoints p) columns j (d .size) (drawable-near d) e))
+pub packed-laid : (cs : List Pt) (p : List ℤ) (columns j : ℕ) → Drawable p columns j → (b : List ℕ) {a c : List ℕ} {u : Bounds} → a ≡ packedAtop (λ _. false) columns b →
+    record { bytes = c; bounds = u } ≡ laid cs (pathPoints p) columns j a → c ≡ packedOver cs p columns j b
+packed-laid cs p columns j d b {a} e l =
+    laid-row cs (pathPoints p) columns j (d .size) (drawable-near d) a
+    (omega (arith, ap length e, length-append (packed (λ _. false) columns) (drop (packedLength columns) b), packed-length (λ _. false) columns)) l
+    ∙ ap (λ (r : List ℕ). laidOver r (packed (λ x. blackAt cs (pathPoints p) (pos j) (pos x)) columns)) e
+    ∙ over-cleared (λ x. blackAt cs (pathPoints p) (pos j) (pos x)) columns b

@@ -13,7 +13,8 @@ use Rattle.checks.specs.declared.Answer.{Answer}
 use Rattle.checks.specs.Checks.{verdict}
 use Rattle.checks.proofs.Verdicts.{verdict-not-zero}
 use Rattle.checks.proofs.Given.{zero-gave}
-use Rattle.packed.specs.Packed.{packedLength, packedOver, packedOffer, packResult, packedCall}
+use Rattle.bits.specs.Bits.{packedLength}
+use Rattle.packed.specs.Packed.{packedOver, packedOffer, packResult, packedCall}
 
 -- ---- the aperture's pen
 pub packed-call-is : {t : Table} {n : ℕ} {σ : Setting} → Holds t n σ → (p : List ℤ) (columns rows j : ℕ) (l : List ℕ) →

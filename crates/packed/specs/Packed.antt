@@ -1,11 +1,11 @@
 -- Document 01: "It also packs a row for a raw PBM file". What the calls for a packed row answer and leave, for every input.
-use Prim.Native.Nat.{ℕ, zero, suc, _+_, _*_, _/_}
-use mathlib.Core.Bool.{Bool, cond, _&&_}
-use mathlib.Core.List.{List, [], _∷_, _++_}
-use lib.Dec.{ltb}
+use Prim.Native.Nat.{ℕ}
+use mathlib.Core.Bool.{Bool}
+use mathlib.Core.List.{List, _++_}
 use lib.ListN.{length, drop}
 use lib.IntN.{ℤ, pos}
 use Rattle.plane.specs.Point.{Pt}
+use Rattle.bits.specs.Bits.{packedLength, packed}
 use Rattle.limits.specs.declared.Verdict.{Verdict}
 use Rattle.limits.specs.declared.Verdict.the-variants.{Passed}
 use Rattle.checks.specs.Checks.{callVerdict}
@@ -14,24 +14,6 @@ use Rattle.stroke.specs.Sweep.{pathPoints}
 use Rattle.stroke.specs.Runs.{blackAt}
 use Rattle.aperture.specs.declared.Table.{Table}
 use Rattle.aperture.specs.Table.{looked, lookedVerdict, heldCorners}
-
--- "the leftmost pixel in the highest bit, black is 1, spare bits are 0": the byte of the columns from i on, k bits of it, after the bits in acc
-unfoldable pub bitsFrom : (ℕ → Bool) → ℕ → ℕ → ℕ → ℕ
-bitsFrom f i zero acc = acc
-bitsFrom f i (suc k) acc = bitsFrom f (suc i) k (2 * acc + cond (f i) 1 0)
-
--- the bytes of the columns from i on, n of them
-unfoldable pub bytesFrom : (ℕ → Bool) → ℕ → ℕ → List ℕ
-bytesFrom f i zero = []
-bytesFrom f i (suc n) = bitsFrom f i 8 0 ∷ bytesFrom f (i + 8) n
-
--- "A packed row fills ceil(columns/8) bytes"
-abbrev pub packedLength : ℕ → ℕ
-packedLength columns = (columns + 7) / 8
-
--- the bytes of a row: the columns of the raster that are black
-abbrev pub packed : (ℕ → Bool) → ℕ → List ℕ
-packed f columns = bytesFrom (λ x. ltb x columns && f x) 0 (packedLength columns)
 
 -- a packed row at the start of a buffer: it "leaves the rest of its buffer"
 abbrev pub packedAtop : (ℕ → Bool) → ℕ → List ℕ → List ℕ

@@ -1,7 +1,7 @@
 // The packed row: which columns of one row a path blackens, as bits, for a raw PBM file.
 //
-// The way of the data: the checks in document 01's order, the segments' columns in the row, cut to
-// the raster (both in crates of their own), and the bytes (bytes); draw leads through these.
+// The way of the data: the checks in document 01's order, and the segments' columns in the row, cut
+// to the raster and laid over the bytes (all in crates of their own); draw leads through these.
 use aperture::Looked;
 use aperture::Table;
 use checks::Answer;
@@ -11,7 +11,6 @@ ghost use mathlib.Core.Path.{_≡_};
 ghost use Rattle.pen.specs.Answer.{penCorners};
 ghost use Rattle.packed.specs.Packed.{packResult, packedCall};
 
-mod bytes;
 mod draw;
 
 // The row for an aperture, a bit to a column. The checks are those of document 01, in its order: 6,

@@ -10,11 +10,7 @@ use borrow.Author.Tests.{le-leb, lt-leb}
 use lib.Dec.{leb}
 use lib.ListN.{length, length-append}
 use Rattle.stroke.specs.Runs.{Run, join, runsFrom, runsOf}
-
--- what a function has at the column before i, and z before the first
-abbrev pub before : {A : Type 0} → A → (ℕ → A) → ℕ → A
-before z f zero = z
-before z f (suc i) = f i
+use Rattle.row.specs.Pass.{before}
 
 -- ss is rs, which is not empty, with the last run ended at column i
 pub data Longer (i : ℕ) : List Run → List Run → Type 0 where
@@ -82,7 +78,7 @@ from-grown f j zero y e = let e′ : y ≡ j = omega arith in rw e′ (two-colum
 from-grown f j (suc n) y e = join-grown (f j) j (omega arith) (from-grown f (suc j) n y (omega arith))
 
 -- after i columns
-pub runs-grown : (f : ℕ → Bool) (i : ℕ) → Grown i (runsOf f i) (before false f i) (f i) (runsOf f (suc i))
+pub runs-grown : (f : ℕ → Bool) (i : ℕ) → Grown i (runsOf f i) (before f i) (f i) (runsOf f (suc i))
 unfolding runsOf runsFrom
 runs-grown f zero = one-column (f 0) 0
 runs-grown f (suc i) = from-grown f 0 i i (omega arith)

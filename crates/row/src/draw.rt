@@ -1,7 +1,7 @@
 // One row of a path that has passed the checks, as runs.
 //
-// Most rows are touched by no segment or by one, and need no array. A row that several touch is
-// put together in one.
+// Most rows are touched by no segment or by one, and need no bytes. Where several touch a row they
+// are laid over the bytes of one, and the runs are those of its bits.
 use crate::runs::count_runs;
 use crate::runs::write_one;
 use crate::runs::write_runs;
@@ -10,15 +10,19 @@ use cuts::Touch;
 use limits::Verdict;
 ghost use mathlib.Core.Path.{_≡_};
 ghost use mathlib.Core.List.{[], _∷_};
-ghost use Prim.Native.Nat.{_≤_, _<_};
+ghost use Prim.Native.Nat.{_*_, _≤_, _<_};
 ghost use lib.ListN.{length};
 ghost use Rattle.limits.specs.Sizes.{rasterMax, Drawable};
 ghost use Rattle.limits.specs.declared.Verdict.the-variants.{Passed};
 ghost use Rattle.plane.specs.Point.{corners};
 ghost use Rattle.stroke.specs.Runs.{runsOf};
-ghost use Rattle.cuts.specs.Cuts.{Bounded, blackFar};
+ghost use Rattle.bits.specs.Bits.{bitAt};
+ghost use Rattle.cuts.specs.Cuts.{Bounded};
 ghost use Rattle.checks.specs.Answer.{given};
 ghost use Rattle.row.specs.Answer.{runsOffer, rowGiven};
+
+// How many bytes the longest row fills.
+const ROW_BYTES: usize = limits::RASTER_MAX / 8;
 
 // A row of one run.
 fn write_single(runs: &mut [u16], left: usize, right: usize) -> Answer
@@ -35,18 +39,18 @@ fn write_single(runs: &mut [u16], left: usize, right: usize) -> Answer
 }
 
 // The runs are counted before any is written, so that a refusal leaves the list as it was.
-fn write_far(runs: &mut [u16], far: &[u16], first: usize, end: usize) -> Answer
-    requires in_array { ⌜ end ≤ length (now far) ⌝ }
+fn write_bits(runs: &mut [u16], bytes: &[u8], first: usize, end: usize) -> Answer
+    requires in_bytes { ⌜ end ≤ 8 * length (now bytes) ⌝ }
     requires in_raster { ⌜ end ≤ rasterMax ⌝ }
-    requires bounded { ⌜ Bounded (now far) first end ⌝ }
-    ensures { λ r. ⌜ record { answer = r; list = now (runs .exit) } ≡ given Passed (runsOffer (runsOf (blackFar (now (far .entry))) end) (now (runs .entry))) ⌝ }
+    requires bounded { ⌜ Bounded (bitAt (now bytes)) first end ⌝ }
+    ensures { λ r. ⌜ record { answer = r; list = now (runs .exit) } ≡ given Passed (runsOffer (runsOf (bitAt (now (bytes .entry))) end) (now (runs .entry))) ⌝ }
 {
-    let count = count_runs(far, first, end);
+    let count = count_runs(bytes, first, end);
     let room = checks::room_check(count, runs.len() / 2);
     let Verdict::Passed = room else {
         return checks::report(room);
     };
-    write_runs(far, first, end, runs);
+    write_runs(bytes, first, end, runs);
     checks::done(count)
 }
 
@@ -63,9 +67,9 @@ fn several_runs<'a>(
     ensures { λ r. ⌜ record { answer = r; list = now (runs .exit) }
         ≡ rowGiven Passed (corners count (now (xs .entry)) (now (ys .entry))) (now (path .entry)) columns row (now (runs .entry)) ⌝ }
 {
-    let mut far: [u16; limits::RASTER_MAX] = [0; limits::RASTER_MAX];
-    let b = cuts::put_together(&mut far, xs, ys, count, path, columns, row);
-    write_far(runs, &far, b.first, b.end)
+    let mut bytes: [u8; ROW_BYTES] = [0; ROW_BYTES];
+    let b = cuts::lay_over(&mut bytes, xs, ys, count, path, columns, row);
+    write_bits(runs, &bytes, b.first, b.end)
 }
 
 // The runs of the row, cut to the raster. No run needs no room.

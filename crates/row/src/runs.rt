@@ -1,45 +1,36 @@
 // The list of runs: pairs of a left and a right column, one after the other.
 //
-// One pass over the columns between the bounds of the cuts, from the left: no other is black. A
-// column is black exactly when the cuts that start at it or before it go further than it, and a run
-// starts at a black column that follows no black one. At any time the list holds the runs of the
-// columns passed: a black column starts a new run or moves the right end of the last one. Counting
-// is the same pass without the list, so that a caller knows whether there is room before anything
-// is written.
-use integers::max_u16;
+// One pass over the bytes between the bounds of the cuts, from the left: no other column is black. A
+// run starts at a black column that follows no black one. At any time the list holds the runs of the
+// columns passed: a black column starts a new run or moves the right end of the last one. Most bytes
+// are clear, and passed at once. Counting is the same pass without the list, so that a caller knows
+// whether there is room before anything is written.
 ghost use mathlib.Core.Path.{_≡_};
 ghost use mathlib.Core.Bool.{true, false, not, cond, _&&_};
 ghost use mathlib.Core.List.{[], _∷_};
-ghost use Prim.Native.Nat.{suc, max, _+_, _-_, _*_, _<_, _≤_};
-ghost use lib.Dec.{ltb};
-ghost use lib.ListN.{length, getD, set};
+ghost use Prim.Native.Nat.{suc, _+_, _-_, _*_, _<_, _≤_};
+ghost use lib.ListN.{length, set};
 ghost use Rattle.limits.specs.Sizes.{rasterMax};
+ghost use Rattle.bits.specs.Bits.{bitAt};
 ghost use Rattle.stroke.specs.Runs.{runsOf};
 ghost use Rattle.row.specs.Answer.{listed};
-ghost use Rattle.cuts.specs.Cuts.{Bounded, blackFar};
+ghost use Rattle.row.specs.Pass.{Passed, HoldsRuns};
+ghost use Rattle.cuts.specs.Cuts.{Bounded};
 
-// What the pass knows after a column: how far the cuts so far go, whether the column is black, and
-// how many runs there are so far.
+// What the pass knows after a column: whether the column is black, and how many runs there are so
+// far.
 pub struct Pass {
-    pub reach: u16,
     pub black: bool,
     pub count: usize,
 }
 
 fn begin() -> Pass
-    ensures { λ r. ⌜ r ≡ record { reach = 0; black = false; count = 0 } ⌝ }
+    ensures { λ r. ⌜ r ≡ record { black = false; count = 0 } ⌝ }
 {
     Pass {
-        reach: 0,
         black: false,
         count: 0,
     }
-}
-
-fn reaches(reach: u16, i: usize) -> bool
-    ensures { λ r. ⌜ r ≡ ltb i reach ⌝ }
-{
-    i < reach as usize
 }
 
 fn counted(count: usize, before: bool, black: bool) -> usize
@@ -56,34 +47,63 @@ fn counted(count: usize, before: bool, black: bool) -> usize
 }
 
 // Column i passed.
-fn next(far: &[u16], i: usize, p: Pass) -> Pass
-    requires in_array { ⌜ i < length (now far) ⌝ }
-    requires few { ⌜ p .count ≤ rasterMax ⌝ }
-    ensures reach { λ r. ⌜ r .reach ≡ max (p .reach) (getD (now (far .entry)) i 0) ⌝ }
-    ensures black { λ r. ⌜ r .black ≡ ltb i (r .reach) ⌝ }
+fn next(bytes: &[u8], i: usize, p: Pass) -> Pass
+    requires { ⌜ p .count ≤ rasterMax ⌝ }
+    ensures black { λ r. ⌜ r .black ≡ bitAt (now (bytes .entry)) i ⌝ }
     ensures count { λ r. ⌜ r .count ≡ cond (r .black && not (p .black)) (suc (p .count)) (p .count) ⌝ }
 {
-    let reach = max_u16(p.reach, far[i]);
-    let black = reaches(reach, i);
+    let black = bits::is_black(bytes, i);
     let count = counted(p.count, p.black, black);
     Pass {
-        reach: reach,
         black: black,
         count: count,
     }
 }
 
-pub fn count_runs(far: &[u16], first: usize, end: usize) -> usize
-    requires in_array { ⌜ end ≤ length (now far) ⌝ }
-    requires in_raster { ⌜ end ≤ rasterMax ⌝ }
-    requires bounded { ⌜ Bounded (now far) first end ⌝ }
-    ensures { λ r. ⌜ r ≡ length (runsOf (blackFar (now (far .entry))) end) ⌝ }
+// The columns from `from` on and before `to` passed.
+fn count_columns(bytes: &[u8], from: usize, to: usize, p: Pass) -> Pass
+    requires in_raster { ⌜ to ≤ rasterMax ⌝ }
+    requires ordered { ⌜ from ≤ to ⌝ }
+    requires passed { ⌜ Passed (bitAt (now bytes)) from p ⌝ }
+    ensures { λ r. ⌜ Passed (bitAt (now (bytes .entry))) to r ⌝ }
 {
-    let mut p = begin();
-    let mut i = first;
-    while i < end {
-        p = next(far, i, p);
+    let mut q = p;
+    let mut i = from;
+    while i < to {
+        q = next(bytes, i, q);
         i += 1;
+    }
+    q
+}
+
+// The columns of byte k passed.
+fn count_byte(bytes: &[u8], k: usize, p: Pass) -> Pass
+    requires in_bytes { ⌜ k < length (now bytes) ⌝ }
+    requires in_raster { ⌜ 8 * k + 8 ≤ rasterMax ⌝ }
+    requires passed { ⌜ Passed (bitAt (now bytes)) (8 * k) p ⌝ }
+    ensures { λ r. ⌜ Passed (bitAt (now (bytes .entry))) (8 * k + 8) r ⌝ }
+{
+    if bytes[k] == 0 {
+        return Pass {
+            black: false,
+            count: p.count,
+        };
+    }
+    count_columns(bytes, 8 * k, 8 * k + 8, p)
+}
+
+pub fn count_runs(bytes: &[u8], first: usize, end: usize) -> usize
+    requires in_bytes { ⌜ end ≤ 8 * length (now bytes) ⌝ }
+    requires in_raster { ⌜ end ≤ rasterMax ⌝ }
+    requires bounded { ⌜ Bounded (bitAt (now bytes)) first end ⌝ }
+    ensures { λ r. ⌜ r ≡ length (runsOf (bitAt (now (bytes .entry))) end) ⌝ }
+{
+    let n = bits::length_of(end);
+    let mut p = begin();
+    let mut k = first / 8;
+    while k < n {
+        p = count_byte(bytes, k, p);
+        k += 1;
     }
     p.count
 }
@@ -117,20 +137,59 @@ fn write_column(runs: &mut [u16], n: usize, i: usize, before: bool, black: bool)
     }
 }
 
-pub fn write_runs(far: &[u16], first: usize, end: usize, runs: &mut [u16])
-    requires in_array { ⌜ end ≤ length (now far) ⌝ }
-    requires in_raster { ⌜ end ≤ rasterMax ⌝ }
-    requires room { ⌜ 2 * length (runsOf (blackFar (now far)) end) ≤ length (now runs) ⌝ }
-    requires bounded { ⌜ Bounded (now far) first end ⌝ }
-    ensures { λ _. ⌜ now (runs .exit) ≡ listed (runsOf (blackFar (now (far .entry))) end) (now (runs .entry)) ⌝ }
+// The columns from `from` on and before `to` passed, and their runs written.
+fn write_columns(bytes: &[u8], from: usize, to: usize, p: Pass, runs: &mut [u16]) -> Pass
+    requires in_raster { ⌜ to ≤ rasterMax ⌝ }
+    requires ordered { ⌜ from ≤ to ⌝ }
+    requires passed { ⌜ Passed (bitAt (now bytes)) from p ⌝ }
+    requires held { ⌜ HoldsRuns (bitAt (now bytes)) from (now runs) ⌝ }
+    requires room { ⌜ 2 * length (runsOf (bitAt (now bytes)) to) ≤ length (now runs) ⌝ }
+    ensures passed { λ r. ⌜ Passed (bitAt (now (bytes .entry))) to r ⌝ }
+    ensures written { λ _. ⌜ now (runs .exit) ≡ listed (runsOf (bitAt (now (bytes .entry))) to) (now (runs .entry)) ⌝ }
 {
-    let mut p = begin();
-    let mut i = first;
-    while i < end {
-        let q = next(far, i, p);
-        write_column(runs, p.count, i, p.black, q.black);
-        p = q;
+    let mut q = p;
+    let mut i = from;
+    while i < to {
+        let r = next(bytes, i, q);
+        write_column(runs, q.count, i, q.black, r.black);
+        q = r;
         i += 1;
+    }
+    q
+}
+
+// The columns of byte k passed, and their runs written.
+fn write_byte(bytes: &[u8], k: usize, p: Pass, runs: &mut [u16]) -> Pass
+    requires in_bytes { ⌜ k < length (now bytes) ⌝ }
+    requires in_raster { ⌜ 8 * k + 8 ≤ rasterMax ⌝ }
+    requires passed { ⌜ Passed (bitAt (now bytes)) (8 * k) p ⌝ }
+    requires held { ⌜ HoldsRuns (bitAt (now bytes)) (8 * k) (now runs) ⌝ }
+    requires room { ⌜ 2 * length (runsOf (bitAt (now bytes)) (8 * k + 8)) ≤ length (now runs) ⌝ }
+    ensures passed { λ r. ⌜ Passed (bitAt (now (bytes .entry))) (8 * k + 8) r ⌝ }
+    ensures written { λ _. ⌜ now (runs .exit) ≡ listed (runsOf (bitAt (now (bytes .entry))) (8 * k + 8)) (now (runs .entry)) ⌝ }
+{
+    if bytes[k] == 0 {
+        return Pass {
+            black: false,
+            count: p.count,
+        };
+    }
+    write_columns(bytes, 8 * k, 8 * k + 8, p, runs)
+}
+
+pub fn write_runs(bytes: &[u8], first: usize, end: usize, runs: &mut [u16])
+    requires in_bytes { ⌜ end ≤ 8 * length (now bytes) ⌝ }
+    requires in_raster { ⌜ end ≤ rasterMax ⌝ }
+    requires room { ⌜ 2 * length (runsOf (bitAt (now bytes)) end) ≤ length (now runs) ⌝ }
+    requires bounded { ⌜ Bounded (bitAt (now bytes)) first end ⌝ }
+    ensures { λ _. ⌜ now (runs .exit) ≡ listed (runsOf (bitAt (now (bytes .entry))) end) (now (runs .entry)) ⌝ }
+{
+    let n = bits::length_of(end);
+    let mut p = begin();
+    let mut k = first / 8;
+    while k < n {
+        p = write_byte(bytes, k, p, runs);
+        k += 1;
     }
 }
 

@@ -7,7 +7,7 @@ use lib.ListN.{length, take, drop, replicate, length-take, length-drop, length-r
 use lib.Seq.{take-at, length-take-le}
 use denote.Ref.{now}
 use borrow.Author.Needs.{needs}
-use Rattle.packed.specs.Packed.{packedLength}
+use Rattle.bits.specs.Bits.{packedLength}
 use Rattle.checks.specs.Answer.{Result, done}
 use Rattle.pbm.specs.Pbm.{header, topFirst, started}
 use Rattle.drawing.specs.Strokes.{Drawing, drawingOf}

@@ -7,7 +7,7 @@ use denote.Ref.{now}
 use borrow.Author.Needs.{needs}
 use Rattle.checks.specs.Answer.{Result}
 use Rattle.packed.specs.Packed.{packedCall}
-use Rattle.drawing.specs.Film.{laidOver}
+use Rattle.bits.specs.Bits.{laidOver}
 use Rattle.drawing.proofs.row.add_stroke.Statement.{statement}
 use Rattle.drawing.proofs.row.add_stroke.Tie as tie
 

@@ -8,8 +8,9 @@ use borrow.Author.Tests.{ltb-true, ltb-false}
 use lib.Bits.{bitOr}
 use lib.ListN.{length, take, getD, set, length-set}
 use denote.Ref.{now}
-use Rattle.drawing.specs.Film.{laidOver}
-use Rattle.drawing.proofs.Over.{over-nil, over-step, over-past, over-all}
+use Rattle.bits.specs.Bits.{laidOver}
+use Rattle.bits.proofs.Over.{over-nil}
+use Rattle.drawing.proofs.Over.{over-step, over-past, over-all}
 use borrow.Author.Needs.{needs}
 use Rattle.drawing.proofs.row.lay_over.Statement.{statement}
 use Rattle.drawing.proofs.row.lay_over.Tie as tie

@@ -8,7 +8,8 @@ use Rattle.checks.specs.Checks.{roomVerdict}
 use Rattle.checks.specs.Answer.{Offer, done}
 use Rattle.checks.proofs.Verdicts.{room-passed}
 use Rattle.checks.proofs.Given.{no-room, room-left}
-use Rattle.packed.specs.Packed.{packedLength, packedOffer}
+use Rattle.bits.specs.Bits.{packedLength}
+use Rattle.packed.specs.Packed.{packedOffer}
 use Rattle.packed.proofs.draw.draw_packed.Statement.{statement}
 use Rattle.packed.proofs.draw.draw_packed.Tie as tie
 
@@ -27,7 +28,7 @@ room : (c : tie.After-enum-told) → let a = start (c .before .before) .args in 
 room c = room-passed _ _ (verdict (c .before .before)) (c .enum-told .given .1)
 
 length-of-requires : tie.Need-length-of-requires
-length-of-requires c κs = c .before .pre .size .few
+length-of-requires c κs = search needs
 
 room-check-requires : tie.Need-room-check-requires
 room-check-requires c κs = search needs

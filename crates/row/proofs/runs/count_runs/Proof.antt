@@ -1,49 +1,62 @@
--- The loop passes the columns one after the other, and `Passed` says what is known after each.
-use Prim.Native.Nat.{_≤_, _-_}
-use mathlib.Core.Path.{_≡_, ap, _∙_}
-use native.Mathlib.Numerals.{add-one}
+-- The loop passes byte after byte, from one that has the first column between the bounds, or starts before it, to one that ends at their end, or past it.
+use Prim.Native.Nat.{_*_, _-_, _≤_}
+use mathlib.Core.Path.{_≡_, sym, ap, _∙_, subst}
+use Prim.Native.Nat.{ℕ, _+_}
 use native.Mathlib.Omega.{arith}
 use lib.ListN.{length}
-use Rattle.stroke.specs.Runs.{runsOf}
-use Rattle.cuts.specs.Cuts.{blackFar}
-use Rattle.row.proofs.Pass.{Passed, passed-none, passed-few, passed-next}
+use borrow.Author.Needs.{needs}
+use Rattle.bits.specs.Bits.{packedLength, bitAt}
+use Rattle.row.specs.Pass.{Passed}
+use Rattle.row.proofs.BoundedRuns.{runs-end}
+use Rattle.row.proofs.Pass.{passed-none}
 use Rattle.row.proofs.runs.count_runs.Statement.{statement}
 use Rattle.row.proofs.runs.count_runs.Tie as tie
 
 abbrev Inv-loop : tie.InvT-loop
-Inv-loop far first end p₀ i₀ p i = (i ≤ end) × Passed far i p
+Inv-loop bytes first end n p₀ k₀ p k = (n ≡ packedLength end) × (k ≤ n) × Passed (bitAt bytes) (8 * k) p
 
 abbrev μ-loop : tie.MeasureT-loop
-μ-loop far first end p₀ i₀ p i = end - i
+μ-loop bytes first end n p₀ k₀ p k = n - k
 
 -- at the loop: the call as it was
 abbrev start : tie.At-loop Inv-loop μ-loop → tie.Start Inv-loop μ-loop
-start c = c .before .before .before
+start c = c .before .before .before .before
+
+length-of-requires : tie.Need-length-of-requires Inv-loop μ-loop
+length-of-requires c κs = search needs
 
 begin-requires : tie.Need-begin-requires Inv-loop μ-loop
 begin-requires c κs = tt
 
 loop-holds : tie.Need-loop-holds Inv-loop μ-loop
-loop-holds c = let b = c .before .before .pre .1 .1 in (b .ordered, passed-none b (c .begin .ensures))
+loop-holds c =
+    let s = c .before .before .before in
+    let b = s .pre .1 .1 in
+    let n = c .before .length-of .ensures in
+    (n, omega (arith, b .ordered, n), passed-none b (c .begin .ensures) _ (omega arith))
 
-next-requires : tie.Need-next-requires Inv-loop μ-loop
-next-requires c κs = (omega arith, omega (arith, passed-few (c .before .loop .inv .1)))
+count-byte-requires : tie.Need-count-byte-requires Inv-loop μ-loop
+count-byte-requires c κs =
+    let i = c .before .loop in
+    let s = start (c .before) in
+    (omega (arith, i .inv .0, c .loop-test .taken, s .pre .0), (omega (arith, i .inv .0, c .loop-test .taken, s .pre .1 .0), i .inv .2))
 
-add-i : tie.Need-add-i Inv-loop μ-loop
-add-i c = omega arith
+add-k : tie.Need-add-k Inv-loop μ-loop
+add-k c = let body = c .before in omega (arith, body .before .loop .inv .0, body .loop-test .taken, start (body .before) .pre .1 .0)
 
 loop-less : tie.Need-loop-less Inv-loop μ-loop
-loop-less c = omega arith
+loop-less c = omega (arith, c .before .loop-test .taken)
 
 loop-again : tie.Need-loop-again Inv-loop μ-loop
-loop-again c = (omega arith, rw add-one (passed-next (c .before .before .loop .inv .1) (c .next .ensures)))
+loop-again c =
+    let i = c .before .before .loop in
+    let e : 8 * i .k + 8 ≡ 8 * (i .k + 1) = omega arith in
+    (i .inv .0, omega (arith, c .before .loop-test .taken), rw e at (c .count-byte .ensures))
 
 returns : tie.Need-returns Inv-loop μ-loop
 returns c =
     let i = c .before .loop in
-    let a = start (c .before) .args in
-    let e : i .i ≡ a .end = omega (arith, i .inv .0, c .loop-test .left) in
-    i .inv .1 .counts ∙ ap (λ k. length (runsOf (blackFar (a .far .now)) k)) e
+    i .inv .2 .counts ∙ sym (ap length (runs-end (start (c .before) .pre .1 .1) (8 * i .k) (omega (arith, i .inv .0, c .loop-test .left))))
 
 pub count-runs-spec : {M : Type 1} → statement M
 count-runs-spec =
@@ -51,10 +64,11 @@ count-runs-spec =
     (tie.spec
     Inv-loop
     μ-loop
+    length-of-requires
     begin-requires
     loop-holds
-    next-requires
-    add-i
+    count-byte-requires
+    add-k
     loop-less
     loop-again
     returns)
