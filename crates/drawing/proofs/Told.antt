@@ -24,7 +24,8 @@ use Rattle.checks.specs.Checks.{rasterVerdict, verdict}
 use Rattle.checks.specs.Answer.{done, answerOf, Offer, given}
 use Rattle.checks.proofs.Verdicts.{verdict-not-zero}
 use Rattle.checks.proofs.Exactly.{settled-number, settled-place, settled-none}
-use Rattle.packed.specs.Packed.{packedLength, packedOffer, packedCall}
+use Rattle.bits.specs.Bits.{packedLength}
+use Rattle.packed.specs.Packed.{packedOffer, packedCall}
 use Rattle.pbm.specs.Pbm.{header, fileOffer}
 use Rattle.pbm.proofs.Refusals.{file-refuses}
 use Rattle.drawing.specs.declared.StrokeVerdict.{StrokeVerdict}
