@@ -43,8 +43,8 @@
  * what is written. Any address will do. A null pointer with length 0 is an empty
  * path (refusal 2) or no room at all: no run, or no byte, fits in it.
  *
- * Stack. A row call needs 69 KB of it (70,368 bytes), a packed row 67 KB (67,856),
- * whatever the path. A thread of ZIMAROLFO_STACK bytes has enough for both.
+ * Stack. A row call needs 53,536 bytes of it and a packed row 51,008, whatever the
+ * path. A thread of ZIMAROLFO_STACK bytes, 64 KB, has enough for both.
  */
 #ifndef ZIMAROLFO_H
 #define ZIMAROLFO_H
@@ -57,7 +57,7 @@ extern "C" {
 #endif
 
 /* A stack that is large enough for a thread that calls these functions, in bytes. */
-#define ZIMAROLFO_STACK 131072
+#define ZIMAROLFO_STACK 65536
 
 enum {
     ZIMAROLFO_DONE = 0,

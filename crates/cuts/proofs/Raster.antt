@@ -58,7 +58,7 @@ below-last x zero h = absurd (omega arith)
 below-last x (suc n) h = rw last-column (le-iff (pos x) (pos n) .0 (le-leb x n (omega arith)))
 
 -- the columns of the raster that a span has are those that its cut has
-in-cut : (s : Span) (x columns : ℕ) → x < columns → inSpan s (pos x) ≡ inCut x (cutTo columns (answered s))
+pub in-cut : (s : Span) (x columns : ℕ) → x < columns → inSpan s (pos x) ≡ inCut x (cutTo columns (answered s))
 in-cut none x columns h = refl
 in-cut (from-to first last) x columns h =
     ap₂ _&&_ (left-limit first x) (right-limit last (pos columns -ℤ pos 1) x (below-last x columns h))

@@ -6,9 +6,9 @@ use mathlib.Core.List.{List}
 use native.Mathlib.Omega.{arith}
 use borrow.Author.Tests.{leb-true, le-leb, lt-leb}
 use lib.Dec.{leb}
-use lib.IntN.{ℤ, pos}
+use lib.IntN.{ℤ}
 use lib.ListN.{length}
-use Rattle.limits.specs.Sizes.{entriesMax, rasterMax}
+use Rattle.limits.specs.Sizes.{entriesMax}
 use Rattle.limits.specs.declared.Verdict.{Verdict}
 use Rattle.limits.specs.declared.Verdict.the-variants.{Passed, Refused}
 use Rattle.limits.specs.Refusal.{room, unless}
@@ -17,13 +17,13 @@ use Rattle.wire.proofs.Laws.{encoded-none}
 use Rattle.plane.specs.Point.{Pt}
 use Rattle.pen.specs.Answer.{penCorners}
 use Rattle.stroke.specs.Sweep.{pathPoints}
-use Rattle.stroke.specs.Runs.{Run, rowRuns, blackAt}
-use Rattle.stroke.proofs.Runs.{runs-few}
+use Rattle.stroke.specs.Runs.{Run, rowRuns}
 use Rattle.checks.specs.declared.Answer.{Answer}
 use Rattle.checks.specs.Checks.{verdict, roomVerdict}
 use Rattle.checks.specs.Answer.{answerOf, Result, Offer, settled, given}
-use Rattle.checks.proofs.Verdicts.{verdict-passed, room-passed, room-refused}
+use Rattle.checks.proofs.Verdicts.{verdict-passed, verdict-short, room-passed, room-refused}
 use Rattle.row.specs.Answer.{runsOffer, rowResult}
+use Rattle.row.proofs.FewRuns.{runs-entries}
 use Rattle.bits.specs.Bits.{packedLength}
 use Rattle.packed.specs.Packed.{packedOffer, packResult}
 use Rattle.host.specs.Host.{coded, Outcome, told, runBytesOffer}
@@ -46,9 +46,9 @@ given-fit Passed o s h = go (leb (o .count) (o .space))
 pub refused-fit : (n : ℕ) → n < 256 → Fit (answerOf (Refused n 0))
 refused-fit n h = record { refusal = h; place = omega arith; count = omega arith }
 
--- a row within the raster has at most 8,192 runs, and fills at most 2,048 bytes
+-- a row has no more runs than a path has entries, and fills at most 2,048 bytes
 pub runs-fit : (cs : List Pt) (path : List ℤ) (columns rows j : ℕ) → verdict path columns rows j ≡ Passed → length (rowRuns cs (pathPoints path) columns j) ≤ entriesMax
-runs-fit cs path columns rows j e = omega (arith, runs-few (λ x. blackAt cs (pathPoints path) (pos j) (pos x)) columns, verdict-passed path columns rows j e .size .few)
+runs-fit cs path columns rows j e = omega (arith, runs-entries cs path columns j, verdict-short path columns rows j e)
 
 pub bytes-fit : (path : List ℤ) (columns rows j : ℕ) → verdict path columns rows j ≡ Passed → packedLength columns ≤ entriesMax
 bytes-fit path columns rows j e = omega (arith, verdict-passed path columns rows j e .size .few)
@@ -104,14 +104,14 @@ module _ (c : Call) (path : List ℤ) (l : List ℕ) where
     told = runs-told (entriesVerdict c path) rs l b;
   }
 
-  -- a list of 8,192 records is never too short
-  pub call-enough : length l ≡ rasterMax → ¬ (rowResult (penCorners (c .pen)) path (c .columns) (c .rows) (c .row) l .answer .refusal ≡ 7)
+  -- a list with as many numbers as the path has entries is never too short
+  pub call-enough : (entriesVerdict c path ≡ Passed → length path ≤ length l) → ¬ (rowResult (penCorners (c .pen)) path (c .columns) (c .rows) (c .row) l .answer .refusal ≡ 7)
   unfolding rowResult
-  call-enough long = go (entriesVerdict c path) (runs-fit (penCorners (c .pen)) path (c .columns) (c .rows) (c .row)) (small-verdict path (c .columns) (c .rows) (c .row))
+  call-enough long = go (entriesVerdict c path) long (small-verdict path (c .columns) (c .rows) (c .row))
     where
-      go : (v : Verdict) → (v ≡ Passed → length rs ≤ entriesMax) → Small entriesMax v → ¬ (given v (runsOffer rs l) .answer .refusal ≡ 7)
+      go : (v : Verdict) → (v ≡ Passed → length path ≤ length l) → Small entriesMax v → ¬ (given v (runsOffer rs l) .answer .refusal ≡ 7)
       go (Refused n place) h s = λ z. omega (arith, z, s .1)
-      go Passed h s = rw (le-leb (length rs) (length l / 2) (omega (arith, h refl))) (λ z. omega (arith, z))
+      go Passed h s = rw (le-leb (length rs) (length l / 2) (omega (arith, h refl, runs-entries (penCorners (c .pen)) path (c .columns) (c .row)))) (λ z. omega (arith, z))
 
 -- ---- the bytes of a list, by the check of the host's room
 module _ (a : Answer) (l b : List ℕ) {v : Verdict} (e : v ≡ roomVerdict (a .count) (length b / 4)) where

@@ -8,6 +8,7 @@ ghost use mathlib.Core.Bool.{_&&_};
 ghost use lib.Dec.{leb, eqb};
 ghost use lib.ListN.{length};
 ghost use Rattle.limits.specs.Sizes.{entriesMax};
+ghost use Rattle.limits.specs.declared.Verdict.the-variants.{Passed};
 ghost use Rattle.limits.specs.Refusal.{path, unless};
 ghost use Rattle.wire.specs.Read.{entriesOf};
 ghost use Rattle.checks.specs.Answer.{answerOf};
@@ -60,29 +61,27 @@ fn write(a: Answer, list: &[u16], runs: &mut [u8]) -> u64
     code(a)
 }
 
-// A row has at most 8,192 runs, so a list of that many has room enough, and what is left to compare
-// is the host's own room.
-fn many_runs(call: Call, path: &[i32], runs: &mut [u8]) -> u64
+// The runs go into the list, and from there to the host's bytes. There are no more runs than
+// segments, so that a list with as many numbers as the path has entries has room for them, and what
+// is left to compare is the host's own room.
+fn listed_runs(call: Call, path: &[i32], list: &mut [u16], runs: &mut [u8]) -> u64
+    requires { ⌜ (entriesVerdict call (now path) ≡ Passed → length (now path) ≤ length (now list)) ⌝ }
     ensures { λ r. ⌜ record { answer = r; bytes = now (runs .exit) } ≡ runsWith call (entriesVerdict call (now (path .entry))) (now (path .entry)) (now (runs .entry)) ⌝ }
 {
-    let mut list: [u16; limits::RASTER_MAX] = [0; limits::RASTER_MAX];
-    let a = row::runs_for(call.pen, path, call.columns, call.rows, call.row, &mut list);
-    write(a, &list, runs)
+    let a = row::runs_for(call.pen, path, call.columns, call.rows, call.row, list);
+    write(a, list, runs)
 }
 
-// A path of 32 points has at most 31 segments and so no more runs: a short list serves it, and if
-// it did not, the long one would. To clear a list for 8,192 would cost more than most rows do.
+// A short path has a short list: to clear one for the longest would cost more than most rows do.
 fn entries_runs(call: Call, path: &[i32], runs: &mut [u8]) -> u64
     ensures { λ r. ⌜ record { answer = r; bytes = now (runs .exit) } ≡ runsWith call (entriesVerdict call (now (path .entry))) (now (path .entry)) (now (runs .entry)) ⌝ }
 {
     if path.len() <= SHORT {
         let mut list: [u16; SHORT] = [0; SHORT];
-        let a = row::runs_for(call.pen, path, call.columns, call.rows, call.row, &mut list);
-        if a.refusal != limits::NO_ROOM {
-            return write(a, &list, runs);
-        }
+        return listed_runs(call, path, &mut list, runs);
     }
-    many_runs(call, path, runs)
+    let mut list: [u16; limits::ENTRIES_MAX] = [0; limits::ENTRIES_MAX];
+    listed_runs(call, path, &mut list, runs)
 }
 
 fn entries_packed(call: Call, path: &[i32], bytes: &mut [u8]) -> u64

@@ -4,20 +4,20 @@ use native.Mathlib.Omega.{arith}
 use mathlib.Core.Path.{_≡_, refl}
 use mathlib.Core.List.{List}
 use lib.ListN.{length}
-use lib.IntN.{ℤ, pos}
+use lib.IntN.{ℤ}
 use Rattle.limits.specs.declared.Verdict.{Verdict}
 use Rattle.limits.specs.declared.Verdict.the-variants.{Passed}
 use Rattle.limits.proofs.Verdicts.{then-both}
 use Rattle.aperture.specs.declared.Table.{Table}
 use Rattle.aperture.specs.Table.{looked, lookedVerdict, heldCorners}
 use Rattle.stroke.specs.Sweep.{pathPoints}
-use Rattle.stroke.specs.Runs.{Run, rowRuns, blackAt}
-use Rattle.stroke.proofs.Runs.{runs-few}
+use Rattle.stroke.specs.Runs.{Run, rowRuns}
 use Rattle.checks.specs.Checks.{verdict, callVerdict}
 use Rattle.checks.specs.Answer.{given}
-use Rattle.checks.proofs.Verdicts.{verdict-passed}
+use Rattle.checks.proofs.Verdicts.{verdict-short}
 use Rattle.row.specs.Answer.{runsOffer}
 use Rattle.row.specs.Calls.{rowCall}
+use Rattle.row.proofs.FewRuns.{runs-entries}
 use Rattle.records.specs.Records.{runsMax}
 
 module _ (t : Table) (n : ℕ) (path : List ℤ) (columns rows j : ℕ) where
@@ -31,8 +31,8 @@ module _ (t : Table) (n : ℕ) (path : List ℤ) (columns rows j : ℕ) where
   unfolding rowCall
   call-given l = refl
 
-  -- a row within the raster has at most as many columns, and runs lie apart
+  -- a path has two entries for each run
   pub call-few : callChecks ≡ Passed → length callRuns ≤ runsMax
   call-few e =
-      let d = verdict-passed path columns rows j (then-both (lookedVerdict (looked t n)) (verdict path columns rows j) e .1) in
-      omega (arith, runs-few (λ x. blackAt (heldCorners t n) (pathPoints path) (pos j) (pos x)) columns, d .size .few)
+      let d = verdict-short path columns rows j (then-both (lookedVerdict (looked t n)) (verdict path columns rows j) e .1) in
+      omega (arith, runs-entries (heldCorners t n) path columns j)

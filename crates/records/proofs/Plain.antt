@@ -9,7 +9,7 @@ use lib.Dec.{leb}
 use lib.ListN.{length, take, drop, take-append-drop}
 use lib.Seq.{length-take-le}
 use lib.IntN.{ℤ}
-use Rattle.limits.specs.Sizes.{rasterMax}
+use Rattle.limits.specs.Sizes.{entriesMax}
 use Rattle.limits.specs.Refusal.{room, refuse}
 use Rattle.limits.specs.declared.Verdict.{Verdict}
 use Rattle.limits.specs.declared.Verdict.the-variants.{Passed, Refused}
@@ -49,7 +49,7 @@ given-records Passed rs o = go (leb (length rs) (length o)) refl
 -- ---- the records written
 -- what `write` is asked for, where the plain call answered a and left l, and what it leaves
 pub record Fills (o : List Run) (l : List ℕ) (a : Answer) (r : Result Run) : Type 0 where
-  pub list : 2 * a .count ≤ rasterMax
+  pub list : 2 * a .count ≤ entriesMax
   pub room : a .count ≤ length o
   pub same : record { answer = a; list = written (a .count) l o } ≡ r
 
@@ -75,7 +75,7 @@ begins : (rs : List stroke.Run) (n : ℕ) (l m : List ℕ) → take n l ≡ flat
 begins rs n l m e = sym (take-append-drop n l) ∙ ap (λ (k : List ℕ). k ++ drop n l) e ∙ append-assoc (flat rs) m (drop n l)
 
 -- the front has room for the runs where the records have
-module _ (rs : List stroke.Run) (o : List Run) (l₀ l : List ℕ) (a : Answer) (few : length rs ≤ runsMax) (long : length l₀ ≡ rasterMax) where
+module _ (rs : List stroke.Run) (o : List Run) (l₀ l : List ℕ) (a : Answer) (few : length rs ≤ runsMax) (long : length l₀ ≡ entriesMax) where
   front : List ℕ
   front = take (entries (length o)) l₀
 
@@ -100,7 +100,7 @@ module _ (rs : List stroke.Run) (o : List Run) (l₀ l : List ℕ) (a : Answer) 
           rw q (refused-fills 7 0 o l (ap (λ (r : Result ℕ). r .answer) (e ∙ exceeds)))
 
 -- what `flat_runs` promises is what `write` needs, whatever the checks answer
-given-fills : (v : Verdict) (rs : List stroke.Run) (o : List Run) (l₀ l : List ℕ) (a : Answer) → (v ≡ Passed → length rs ≤ runsMax) → length l₀ ≡ rasterMax →
+given-fills : (v : Verdict) (rs : List stroke.Run) (o : List Run) (l₀ l : List ℕ) (a : Answer) → (v ≡ Passed → length rs ≤ runsMax) → length l₀ ≡ entriesMax →
     record { answer = a; list = take (entries (length o)) l } ≡ given v (runsOffer rs (take (entries (length o)) l₀)) → Fills o l a (given v (recordsOffer rs o))
 given-fills (Refused n place) rs o l₀ l a few long e = refused-fills n place o l (ap (λ (r : Result ℕ). r .answer) e)
 given-fills Passed rs o l₀ l a few long e = drawn-front rs o l₀ l a (few refl) long e
@@ -110,7 +110,7 @@ module _ (t : Table) (n : ℕ) (path : List ℤ) (columns rows j : ℕ) (o : Lis
   unfolding recordsCall
   records-given = ap asRecords (call-given t n path columns rows j (numbers o)) ∙ given-records (callChecks t n path columns rows j) (callRuns t n path columns rows j) o
 
-  pub fills : (l₀ l : List ℕ) (a : Answer) → length l₀ ≡ rasterMax → record { answer = a; list = take (entries (length o)) l } ≡ rowCall t n path columns rows j (take (entries (length o)) l₀) →
+  pub fills : (l₀ l : List ℕ) (a : Answer) → length l₀ ≡ entriesMax → record { answer = a; list = take (entries (length o)) l } ≡ rowCall t n path columns rows j (take (entries (length o)) l₀) →
       Fills o l a (recordsCall t n path columns rows j o)
   fills l₀ l a long e =
       subst (Fills o l a) (sym records-given)

@@ -8,7 +8,7 @@ use borrow.Author.Tests.{le-leb, lt-leb, leb-true}
 use lib.Dec.{leb}
 use lib.ListN.{length, take, drop}
 use lib.Seq.{take-at, length-take-le}
-use Rattle.limits.specs.Sizes.{rasterMax}
+use Rattle.limits.specs.Sizes.{entriesMax}
 use Rattle.checks.specs.declared.Answer.{Answer}
 use Rattle.checks.specs.Answer.{Result}
 use Rattle.records.specs.Records.{runsMax, entries}
@@ -16,14 +16,14 @@ use Rattle.records.specs.Records.{runsMax, entries}
 pub entries-few : (room : ℕ) → room ≤ runsMax → 2 * room ≡ entries room
 entries-few room h = rw (le-leb room runsMax h)
 
-pub entries-all : (room : ℕ) → runsMax < room → rasterMax ≡ entries room
+pub entries-all : (room : ℕ) → runsMax < room → entriesMax ≡ entries room
 entries-all room h = rw (lt-leb room runsMax h)
 
 -- the list of numbers has so many
-pub entries-in : (room : ℕ) → entries room ≤ rasterMax
+pub entries-in : (room : ℕ) → entries room ≤ entriesMax
 entries-in room = go (leb room runsMax) refl
   where
-    go : (t : Bool) → leb room runsMax ≡ t → entries room ≤ rasterMax
+    go : (t : Bool) → leb room runsMax ≡ t → entries room ≤ entriesMax
     go true e = let h = leb-true room runsMax e in rw e (omega (arith, h))
     go false e = rw e (omega arith)
 

@@ -58,7 +58,7 @@ module _ {M : Type 1} (𝓤 : URA M) (H : Heap 𝓤) (A : Atoms 𝓤) (W : Given
         forget ! 0 refl $ move ! (1 ∷ []) $ drop ! $ done !)
 
 -- ---- as steps of a walk
--- `[0; n]`, at a local that is room. The length is any n here: a walk that is at 16,384 writes no zeros out
+-- `[0; n]`, at a local that is room. The length is any n here: a walk that is at 8,192 writes no zeros out
 pub clears : {M : Type 1} {𝓤 : URA M} {H : Heap 𝓤} {A : Atoms 𝓤} {K : Type 0} {W : Given 𝓤 H A} {Γ : List (Item 𝓤)} {C : Calls 𝓤 H} {Λ : Loops 𝓤 H} {E : Env 𝓤 H} {rest : Body} {q : Post 𝓤 H} → K →
     (n i b : ℕ) → spotOf 𝓤 H E i ≡ (tyArray (tyInt w16) n, b, 0) → ((xs : List ℕ) → Seq K W (‵ (arr-parts (shares u16) n .part fullShare xs b 0) ∷ Γ) (runs C Λ E rest q)) →
     Seq K W (‵ (froom (tyArray (tyInt w16) n) b 0) ∷ Γ) (runs C Λ E (seq (assign (place i []) (repeat (int w16 0) n)) rest) q)

@@ -5,7 +5,7 @@ use mathlib.Core.List.{List, [], _∷_, _++_}
 use lib.Dec.{leb}
 use lib.ListN.{take, drop}
 use lib.IntN.{ℤ}
-use Rattle.limits.specs.Sizes.{rasterMax}
+use Rattle.limits.specs.Sizes.{entriesMax}
 use Rattle.aperture.specs.declared.Table.{Table}
 use Rattle.checks.specs.Answer.{Result}
 use Rattle.row.specs.Calls.{rowCall}
@@ -29,13 +29,13 @@ asRecords r = record { answer = r .answer; list = pairs (r .list) }
 unfoldable pub recordsCall : Table → ℕ → List ℤ → ℕ → ℕ → ℕ → List Run → Result Run
 recordsCall t n path columns rows j o = asRecords (rowCall t n path columns rows j (numbers o))
 
--- runs lie apart, so that a row has at most half as many as a raster has columns
+-- a row has no more runs than its path has segments, and so at most half as many as a path can have entries
 abbrev pub runsMax : ℕ
-runsMax = rasterMax / 2
+runsMax = entriesMax / 2
 
 -- how many numbers the runs of a row need, for a list of so many records
 abbrev pub entries : ℕ → ℕ
-entries room = cond (leb room runsMax) (2 * room) rasterMax
+entries room = cond (leb room runsMax) (2 * room) entriesMax
 
 -- the first n records are those of a plain list; those after them are unchanged
 abbrev pub written : ℕ → List ℕ → List Run → List Run

@@ -8,7 +8,7 @@ use checks::Answer;
 ghost use mathlib.Core.Path.{_≡_};
 ghost use Prim.Native.Nat.{_*_, _≤_};
 ghost use lib.ListN.{length, take};
-ghost use Rattle.limits.specs.Sizes.{rasterMax};
+ghost use Rattle.limits.specs.Sizes.{entriesMax};
 ghost use Rattle.row.specs.Calls.{rowCall};
 ghost use Rattle.records.specs.Records.{entries, written, recordsCall};
 
@@ -18,8 +18,9 @@ pub struct Run {
     pub right: u16,
 }
 
-// Runs lie apart, so that a row has at most half as many as a raster has columns.
-const RUNS_MAX: usize = limits::RASTER_MAX / 2;
+// A row has no more runs than its path has segments, and so at most half as many as a path can have
+// entries.
+const RUNS_MAX: usize = limits::ENTRIES_MAX / 2;
 
 // How many numbers the runs of a row need, for a list of so many records.
 fn entries(room: usize) -> usize
@@ -28,7 +29,7 @@ fn entries(room: usize) -> usize
     if room <= RUNS_MAX {
         return 2 * room;
     }
-    limits::RASTER_MAX
+    limits::ENTRIES_MAX
 }
 
 // The plain answer for a list of so many records. The list of numbers is the caller's, so that it is
@@ -43,7 +44,7 @@ fn flat_runs(
     room: usize,
     list: &mut [u16],
 ) -> Answer
-    requires { ⌜ length (now list) ≡ rasterMax ⌝ }
+    requires { ⌜ length (now list) ≡ entriesMax ⌝ }
     ensures { λ r. ⌜ record { answer = r; list = take (entries room) (now (list .exit)) }
         ≡ rowCall table number (now (path .entry)) columns rows row (take (entries room) (now (list .entry))) ⌝ }
 {
@@ -80,7 +81,7 @@ pub fn row_records(
 ) -> Answer
     ensures { λ r. ⌜ record { answer = r; list = now (out .exit) } ≡ recordsCall table number (now (path .entry)) columns rows row (now (out .entry)) ⌝ }
 {
-    let mut list: [u16; limits::RASTER_MAX] = [0; limits::RASTER_MAX];
+    let mut list: [u16; limits::ENTRIES_MAX] = [0; limits::ENTRIES_MAX];
     let answer = flat_runs(
         table,
         number,

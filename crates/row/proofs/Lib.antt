@@ -2,6 +2,7 @@
 --   Filled                 an answer 0 holds the runs of the definition
 --   OneRun                 the runs of a row that one cut or none touches
 --   Grown, Listed          the runs from left to right: what one column more does to them, and to the list that holds them
+--   FewRuns                no more runs than segments
 --   BoundedRuns, Pass      the pass over the columns between bounds: where it starts and ends, and what it knows after each
 --   Drawn                  a row by its cuts and the room
 --   Calls                  a call by what the look-up and the checks answer
@@ -9,6 +10,7 @@ pub mod Filled
 pub mod OneRun
 pub mod Grown
 pub mod Listed
+pub mod FewRuns
 pub mod BoundedRuns
 pub mod Pass
 pub mod Drawn

@@ -47,7 +47,7 @@ use denote.Triple.Clauses.{ensured, lasts}
 use denote.Triple.Table.{entered, cited}
 use denote.Triple.Walked.{says, Stay, Stays, stay-dropped, gave-slice, walkOf, AllGo, goes-dropped, goes-gave-slice, Walks, ends-at, walked, walk-meets}
 use denote.Exit.{yes}
-use Rattle.limits.specs.Sizes.{rasterMax}
+use Rattle.limits.specs.Sizes.{entriesMax}
 use Rattle.aperture.specs.declared.Table.{Table}
 use Rattle.aperture.proofs.Table as Tb
 use Rattle.aperture.proofs.Table.Laws as Tb′
@@ -84,7 +84,7 @@ abbrev half : Ty
 half = tyInt w16
 
 abbrev array : Ty
-array = tyArray half rasterMax
+array = tyArray half entriesMax
 
 abbrev run-type : Ty
 run-type = pointee (T.the-row .written)
@@ -132,7 +132,7 @@ same-function : function ≡ code.function
 same-function = refl
 
 -- the list of numbers is short enough for a slice
-room-of : (xs : List ℕ) → length xs ≡ rasterMax → Room u16 (length xs)
+room-of : (xs : List ℕ) → length xs ≡ entriesMax → Room u16 (length xs)
 room-of xs long = subst (Room u16) (sym long) (lit< tt, lit< tt)
 
 -- an answer as the machine has it
@@ -192,7 +192,7 @@ module _ {M : Type 1} (𝓤 : URA M) (H : Heap 𝓤) (A : Atoms 𝓤) (W : Given
 
   -- the list of numbers, as the local has it
   abbrev Lies : List ℕ → ℕ → Fml
-  Lies xs p = arr-parts (shares u16) rasterMax .part fullShare xs p 0
+  Lies xs p = arr-parts (shares u16) entriesMax .part fullShare xs p 0
 
   abbrev Arg : Type 0
   Arg = Table × (ℕ × (RefT (List ℤ) × (ℕ × (ℕ × (ℕ × (RefT (List Run) × Unit {0}))))))
@@ -316,7 +316,7 @@ module _ {M : Type 1} (𝓤 : URA M) (H : Heap 𝓤) (A : Atoms 𝓤) (W : Given
   module _ (g : Is Tb.the-row t (tv ∷ [])) (tv-typed : Tᵇ (hasTy Tb′.mir tv) × WT tv) (number-fits : number < 2 ^ 64) (gp : Room i32 (length (xp .now)))
       (columns-fits : columns < 2 ^ 64) (rows-fits : rows < 2 ^ 64) (row-fits : row < 2 ^ 64) (gn : Room T.the-row (length ys)) where
     -- what `flat_runs` asks: a list of as many numbers as a raster may have columns
-    goes-flat : (p : ℕ) (xs : List ℕ) (ν : ℕ) (δ : GName) → length xs ≡ rasterMax →
+    goes-flat : (p : ℕ) (xs : List ℕ) (ν : ℕ) (δ : GName) → length xs ≡ entriesMax →
         ent 𝓤 (⋆ 𝓤 H A ((token₀ ⊛ (token ν ⊛ ‵ ftrue)) ∷ Path ∷ LentMut ν p δ xs ∷ [])) (FlatRuns 𝓤 H A mem run .pre (to-flat p xs ν δ))
     goes-flat p xs ν δ long =
         qed W ((token₀ ⊛ (token ν ⊛ ‵ ftrue)) ∷ Path ∷ LentMut ν p δ xs ∷ []) ∵
@@ -400,7 +400,7 @@ module _ {M : Type 1} (𝓤 : URA M) (H : Heap 𝓤) (A : Atoms 𝓤) (W : Given
         AtWrite r zs = token₀ ∷ token₁ ∷ Records ∷ ‵ (Lies zs l₈) ∷ Frame (holds Ans′.mir l₉ (ans-val r))
 
         -- write(&list, answer.count as usize, out); answer
-        writes : (r : Answer) (zs : List ℕ) → length zs ≡ rasterMax → Is Ans.the-row r (ans-val r ∷ []) → Fills ys zs r Called →
+        writes : (r : Answer) (zs : List ℕ) → length zs ≡ entriesMax → Is Ans.the-row r (ans-val r ∷ []) → Fills ys zs r Called →
             ent 𝓤 (⋆ 𝓤 H A (AtWrite r zs)) (Wp 𝓤 H C Λ En body.t-6 (atReturn 𝓤 H En Post))
         writes r zs long good f =
             qed W (AtWrite r zs) ∵ exec ! C Λ En body.t-6 (atRet En Post) $
@@ -505,17 +505,17 @@ module _ {M : Type 1} (𝓤 : URA M) (H : Heap 𝓤) (A : Atoms 𝓤) (W : Given
             use3 W (later (‵ (Arr (mem-of u16) (length xs) .lies (flat-last fs) l₈ 0))) (slice-back 𝓤 H A W u16 (ν ∷ []) δ (flat-last fs) (length xs) l₈ 0) $ await ! tt $
             fsplit ! $ drop ! $
             use1 W (‵ (parts (mem-of u16) (shares u16) fullShare (flat-last fs) l₈ 0)) (whole-out 𝓤 H A W u16 (flat-last fs) l₈ 0) $
-            feqI ! ℕ (length (flat-last fs)) rasterMax (k ∙ long) $ fjoin ! $
+            feqI ! ℕ (length (flat-last fs)) entriesMax (k ∙ long) $ fjoin ! $
             -- the locals of the call are room again
             forget ! 20 refl $ forget ! 18 refl $ forget ! 16 refl $ keep ! (2 ∷ 4 ∷ 5 ∷ 0 ∷ range 6 35) $
             by ! (writes r (flat-last fs) (k ∙ long) (LL.owes Ans.the-type Ans′.the-laws r (LL.owed Ans.the-type Ans′.the-laws r (w ∷ []) is))
             (fills t number (xp .now) columns rows row ys xs (flat-last fs) r long e)))))))))))
 
-        -- let mut list = [0; limits::RASTER_MAX]
+        -- let mut list = [0; limits::ENTRIES_MAX]
         starts : ent 𝓤 (⋆ 𝓤 H A AtStart) (Wp 𝓤 H C Λ En body.t-1 (atReturn 𝓤 H En Post))
         starts =
             qed W AtStart ∵ exec ! C Λ En body.t-1 (atRet En Post) $ move ! (4 ∷ []) $
-            clears ! rasterMax 8 l₈ refl (λ xs.
+            clears ! entriesMax 8 l₈ refl (λ xs.
             move ! (1 ∷ 2 ∷ 3 ∷ 4 ∷ []) $
             by ! (draws xs))
 

@@ -1,56 +1,28 @@
--- The short list serves, or the long one is taken.
-use Prim.Native.Nat.{ℕ}
-use mathlib.Core.Path.{sym, _∙_, subst}
-use mathlib.Core.List.{List}
-use lib.ListN.{replicate}
+-- Either list has as many numbers as the path has entries, unless the path is refused.
 use borrow.Author.Needs.{needs}
-use Rattle.checks.specs.Answer.{Result}
-use Rattle.host.specs.Call.{runsWith, entriesVerdict}
-use Rattle.host.proofs.Outcomes.{Drawn, call-runs}
+use Rattle.checks.proofs.Verdicts.{verdict-short}
 use Rattle.host.proofs.answer.entries_runs.Statement.{statement}
 use Rattle.host.proofs.answer.entries_runs.Tie as tie
 
--- where the runs have been drawn into the short list: the list, and what the answer says
-abbrev start : tie.After-runs-for → tie.Start
-start c = c .before .before .before .before
+slice-aggregate-listed-runs : tie.Need-slice-aggregate-listed-runs
+slice-aggregate-listed-runs c = search needs
 
-abbrev list : tie.After-runs-for → List ℕ
-list c = c .runs-for .last .1 .1 .1 .1 .1 .0
-
-told : (c : tie.After-runs-for) → let a = start c .args in
-    Drawn (record { answer = c .runs-for .result; list = list c }) (a .runs .now) (runsWith (a .call) (entriesVerdict (a .call) (a .path .now)) (a .path .now) (a .runs .now))
-told c =
-    let a = start c .args in
-    subst (λ (r : Result ℕ). Drawn r (a .runs .now) (runsWith (a .call) (entriesVerdict (a .call) (a .path .now)) (a .path .now) (a .runs .now))) (sym (c .runs-for .ensures))
-    (call-runs (a .call) (a .path .now) (replicate 64 0) (a .runs .now))
-
--- where it serves
-abbrev drawn : tie.Then2 → tie.After-runs-for
-drawn c = c .before .before .before
-
-slice-aggregate-runs-for : tie.Need-slice-aggregate-runs-for
-slice-aggregate-runs-for c = search needs
-
-runs-for-requires : tie.Need-runs-for-requires
-runs-for-requires c κs = search needs
-
-slice-aggregate-write : tie.Need-slice-aggregate-write
-slice-aggregate-write c = search needs
-
-write-requires : tie.Need-write-requires
-write-requires c κs = told (drawn (c .before .before)) .fit
+listed-runs-requires : tie.Need-listed-runs-requires
+listed-runs-requires c κs = search needs
 
 same-length : tie.Need-same-length
 same-length c = search needs
 
 returns : tie.Need-returns
-returns c =
-    let written = c .before .before in
-    let serves = written .before .before .before in
-    written .write .ensures ∙ told (drawn serves) .told (serves .if2 .taken)
+returns c = search needs
 
-many-runs-requires : tie.Need-many-runs-requires
-many-runs-requires c κs = search needs
+slice-aggregate-listed-runs-2 : tie.Need-slice-aggregate-listed-runs-2
+slice-aggregate-listed-runs-2 c = search needs
+
+listed-runs-requires-2 : tie.Need-listed-runs-requires-2
+listed-runs-requires-2 c κs =
+    let a = c .before .before .before .before .args in
+    verdict-short (a .path .now) (a .call .columns) (a .call .rows) (a .call .row)
 
 same-length-2 : tie.Need-same-length-2
 same-length-2 c = search needs
@@ -62,12 +34,11 @@ pub entries-runs-spec : {M : Type 1} → statement M
 entries-runs-spec =
     tie.close
     (tie.spec
-    slice-aggregate-runs-for
-    runs-for-requires
-    slice-aggregate-write
-    write-requires
+    slice-aggregate-listed-runs
+    listed-runs-requires
     same-length
     returns
-    many-runs-requires
+    slice-aggregate-listed-runs-2
+    listed-runs-requires-2
     same-length-2
     returns-2)
