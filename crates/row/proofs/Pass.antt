@@ -14,24 +14,24 @@ use Rattle.stroke.proofs.Runs.{runs-few}
 use Rattle.cuts.specs.Cuts.{Bounded}
 use Rattle.row.specs.declared.runs.Pass.{Pass}
 use Rattle.row.specs.Answer.{flat, listed}
-use Rattle.row.specs.Pass.{before, Passed}
+use Rattle.row.specs.Pass.{before, PassedTo}
 use Rattle.row.proofs.Grown.{Grown, runs-grown, grown-length, grown-some}
 use Rattle.row.proofs.BoundedRuns.{runs-clear, black-first, runs-first}
 use Rattle.row.proofs.Listed.{stored, listed-grown}
 
 -- before the first column between the bounds, or earlier
-pub passed-none : {f : ℕ → Bool} {first end : ℕ} {p : Pass} → Bounded f first end → p ≡ record { black = false; count = 0 } → (x : ℕ) → x ≤ first → Passed f x p
+pub passed-none : {f : ℕ → Bool} {first end : ℕ} {p : Pass} → Bounded f first end → p ≡ record { black = false; count = 0 } → (x : ℕ) → x ≤ first → PassedTo f x p
 passed-none b e x h = record {
   blackness = ap (λ p. p .black) e ∙ sym (black-first b x h);
   counts = ap (λ p. p .count) e ∙ sym (ap length (runs-first b x h));
 }
 
 -- there are never more runs than columns, so they can be counted
-pub passed-few : {f : ℕ → Bool} {i : ℕ} {p : Pass} → Passed f i p → 2 * p .count ≤ i + 1
+pub passed-few : {f : ℕ → Bool} {i : ℕ} {p : Pass} → PassedTo f i p → 2 * p .count ≤ i + 1
 passed-few {f} {i} h = omega (arith, h .counts, runs-few f i)
 
 -- there is one where the last column is black
-pub passed-some : {f : ℕ → Bool} {i : ℕ} {p : Pass} → Passed f i p → p .black ≡ true → 1 ≤ p .count
+pub passed-some : {f : ℕ → Bool} {i : ℕ} {p : Pass} → PassedTo f i p → p .black ≡ true → 1 ≤ p .count
 passed-some {f} {i} {p} h e = omega (arith, h .counts, go i (sym (h .blackness) ∙ e))
   where
     go : (i : ℕ) → before f i ≡ true → 1 ≤ length (runsOf f i)
@@ -39,14 +39,14 @@ passed-some {f} {i} {p} h e = omega (arith, h .counts, go i (sym (h .blackness) 
     go (suc i) q = grown-some (subst (λ (t : Bool). Grown i (runsOf f i) (before f i) t (runsOf f (suc i))) q (runs-grown f i))
 
 -- one column further, by what `next` ensures
-pub passed-next : {f : ℕ → Bool} {i : ℕ} {p q : Pass} → Passed f i p → (q .black ≡ f i) × (q .count ≡ cond (q .black && not (p .black)) (suc (p .count)) (p .count)) → Passed f (suc i) q
+pub passed-next : {f : ℕ → Bool} {i : ℕ} {p q : Pass} → PassedTo f i p → (q .black ≡ f i) × (q .count ≡ cond (q .black && not (p .black)) (suc (p .count)) (p .count)) → PassedTo f (suc i) q
 passed-next {f} {i} {p} {q} h e = record {
   blackness = e .0;
   counts = e .1 ∙ ap₂ (λ (t : Bool) (k : ℕ). cond t (suc k) k) (ap₂ (λ (t u : Bool). t && not u) (e .0) (h .blackness)) (h .counts) ∙ sym (grown-length (runs-grown f i));
 }
 
 -- a list that held the runs before column i holds those with it, once the column is written
-pub passed-listed : {f : ℕ → Bool} {i : ℕ} {p q : Pass} → Passed f i p → Passed f (suc i) q → (l : List ℕ) {m m′ : List ℕ} → 2 * length (runsOf f (suc i)) ≤ length l →
+pub passed-listed : {f : ℕ → Bool} {i : ℕ} {p q : Pass} → PassedTo f i p → PassedTo f (suc i) q → (l : List ℕ) {m m′ : List ℕ} → 2 * length (runsOf f (suc i)) ≤ length l →
     m ≡ listed (runsOf f i) l → m′ ≡ stored i (p .black) (q .black) (p .count) m → m′ ≡ listed (runsOf f (suc i)) l
 passed-listed {f} {i} h k l r e w = w ∙ rw (e, h .blackness, k .blackness, h .counts) (sym (listed-grown l (runs-grown f i) r))
 
@@ -59,7 +59,7 @@ pub clear-runs : (b : List ℕ) (k : ℕ) → getD b k 0 ≡ 0 → runsOf (bitAt
 clear-runs b k e = runs-clear (bitAt b) (8 * k) (8 * k + 8) (omega arith) (λ x h l. clear-column b k x e h l)
 
 -- and is passed at once
-pub passed-clear : (b : List ℕ) (k : ℕ) {p q : Pass} → getD b k 0 ≡ 0 → Passed (bitAt b) (8 * k) p → q ≡ record { black = false; count = p .count } → Passed (bitAt b) (8 * k + 8) q
+pub passed-clear : (b : List ℕ) (k : ℕ) {p q : Pass} → getD b k 0 ≡ 0 → PassedTo (bitAt b) (8 * k) p → q ≡ record { black = false; count = p .count } → PassedTo (bitAt b) (8 * k + 8) q
 passed-clear b k e h f =
     let last : 8 * k + 8 ≡ suc (8 * k + 7) = omega arith in
     record {

@@ -14,7 +14,7 @@ before f zero = false
 before f (suc i) = f i
 
 -- the columns before column i are passed
-pub record Passed (f : ℕ → Bool) (i : ℕ) (p : Pass) : Type 0 where
+pub record PassedTo (f : ℕ → Bool) (i : ℕ) (p : Pass) : Type 0 where
   pub blackness : p .black ≡ before f i
   pub counts : p .count ≡ length (runsOf f i)
 

@@ -14,7 +14,7 @@ ghost use Rattle.limits.specs.Sizes.{rasterMax};
 ghost use Rattle.bits.specs.Bits.{bitAt};
 ghost use Rattle.stroke.specs.Runs.{runsOf};
 ghost use Rattle.row.specs.Answer.{listed};
-ghost use Rattle.row.specs.Pass.{Passed, HoldsRuns};
+ghost use Rattle.row.specs.Pass.{PassedTo, HoldsRuns};
 ghost use Rattle.cuts.specs.Cuts.{Bounded};
 
 // What the pass knows after a column: whether the column is black, and how many runs there are so
@@ -64,8 +64,8 @@ fn next(bytes: &[u8], i: usize, p: Pass) -> Pass
 fn count_columns(bytes: &[u8], from: usize, to: usize, p: Pass) -> Pass
     requires in_raster { ⌜ to ≤ rasterMax ⌝ }
     requires ordered { ⌜ from ≤ to ⌝ }
-    requires passed { ⌜ Passed (bitAt (now bytes)) from p ⌝ }
-    ensures { λ r. ⌜ Passed (bitAt (now (bytes .entry))) to r ⌝ }
+    requires passed { ⌜ PassedTo (bitAt (now bytes)) from p ⌝ }
+    ensures { λ r. ⌜ PassedTo (bitAt (now (bytes .entry))) to r ⌝ }
 {
     let mut q = p;
     let mut i = from;
@@ -80,8 +80,8 @@ fn count_columns(bytes: &[u8], from: usize, to: usize, p: Pass) -> Pass
 fn count_byte(bytes: &[u8], k: usize, p: Pass) -> Pass
     requires in_bytes { ⌜ k < length (now bytes) ⌝ }
     requires in_raster { ⌜ 8 * k + 8 ≤ rasterMax ⌝ }
-    requires passed { ⌜ Passed (bitAt (now bytes)) (8 * k) p ⌝ }
-    ensures { λ r. ⌜ Passed (bitAt (now (bytes .entry))) (8 * k + 8) r ⌝ }
+    requires passed { ⌜ PassedTo (bitAt (now bytes)) (8 * k) p ⌝ }
+    ensures { λ r. ⌜ PassedTo (bitAt (now (bytes .entry))) (8 * k + 8) r ⌝ }
 {
     if bytes[k] == 0 {
         return Pass {
@@ -141,10 +141,10 @@ fn write_column(runs: &mut [u16], n: usize, i: usize, before: bool, black: bool)
 fn write_columns(bytes: &[u8], from: usize, to: usize, p: Pass, runs: &mut [u16]) -> Pass
     requires in_raster { ⌜ to ≤ rasterMax ⌝ }
     requires ordered { ⌜ from ≤ to ⌝ }
-    requires passed { ⌜ Passed (bitAt (now bytes)) from p ⌝ }
+    requires passed { ⌜ PassedTo (bitAt (now bytes)) from p ⌝ }
     requires held { ⌜ HoldsRuns (bitAt (now bytes)) from (now runs) ⌝ }
     requires room { ⌜ 2 * length (runsOf (bitAt (now bytes)) to) ≤ length (now runs) ⌝ }
-    ensures passed { λ r. ⌜ Passed (bitAt (now (bytes .entry))) to r ⌝ }
+    ensures passed { λ r. ⌜ PassedTo (bitAt (now (bytes .entry))) to r ⌝ }
     ensures written { λ _. ⌜ now (runs .exit) ≡ listed (runsOf (bitAt (now (bytes .entry))) to) (now (runs .entry)) ⌝ }
 {
     let mut q = p;
@@ -162,10 +162,10 @@ fn write_columns(bytes: &[u8], from: usize, to: usize, p: Pass, runs: &mut [u16]
 fn write_byte(bytes: &[u8], k: usize, p: Pass, runs: &mut [u16]) -> Pass
     requires in_bytes { ⌜ k < length (now bytes) ⌝ }
     requires in_raster { ⌜ 8 * k + 8 ≤ rasterMax ⌝ }
-    requires passed { ⌜ Passed (bitAt (now bytes)) (8 * k) p ⌝ }
+    requires passed { ⌜ PassedTo (bitAt (now bytes)) (8 * k) p ⌝ }
     requires held { ⌜ HoldsRuns (bitAt (now bytes)) (8 * k) (now runs) ⌝ }
     requires room { ⌜ 2 * length (runsOf (bitAt (now bytes)) (8 * k + 8)) ≤ length (now runs) ⌝ }
-    ensures passed { λ r. ⌜ Passed (bitAt (now (bytes .entry))) (8 * k + 8) r ⌝ }
+    ensures passed { λ r. ⌜ PassedTo (bitAt (now (bytes .entry))) (8 * k + 8) r ⌝ }
     ensures written { λ _. ⌜ now (runs .exit) ≡ listed (runsOf (bitAt (now (bytes .entry))) (8 * k + 8)) (now (runs .entry)) ⌝ }
 {
     if bytes[k] == 0 {

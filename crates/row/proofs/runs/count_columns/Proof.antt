@@ -1,16 +1,16 @@
--- The loop passes the columns one after the other, and `Passed` says what is known after each.
+-- The loop passes the columns one after the other, and `PassedTo` says what is known after each.
 use Prim.Native.Nat.{ℕ, _≤_, _-_}
 use mathlib.Core.Path.{_≡_, subst}
 use native.Mathlib.Numerals.{add-one}
 use native.Mathlib.Omega.{arith}
 use Rattle.bits.specs.Bits.{bitAt}
-use Rattle.row.specs.Pass.{Passed}
+use Rattle.row.specs.Pass.{PassedTo}
 use Rattle.row.proofs.Pass.{passed-few, passed-next}
 use Rattle.row.proofs.runs.count_columns.Statement.{statement}
 use Rattle.row.proofs.runs.count_columns.Tie as tie
 
 abbrev Inv-loop : tie.InvT-loop
-Inv-loop bytes from to q₀ i₀ q i = (i ≤ to) × Passed (bitAt bytes) i q
+Inv-loop bytes from to q₀ i₀ q i = (i ≤ to) × PassedTo (bitAt bytes) i q
 
 abbrev μ-loop : tie.MeasureT-loop
 μ-loop bytes from to q₀ i₀ q i = to - i
@@ -38,7 +38,7 @@ returns : tie.Need-returns Inv-loop μ-loop
 returns c =
     let i = c .before .loop in
     let e : i .i ≡ start (c .before) .args .to = omega (arith, i .inv .0, c .loop-test .left) in
-    subst (λ (k : ℕ). Passed (bitAt (start (c .before) .args .bytes .now)) k (i .q)) e (i .inv .1)
+    subst (λ (k : ℕ). PassedTo (bitAt (start (c .before) .args .bytes .now)) k (i .q)) e (i .inv .1)
 
 pub count-columns-spec : {M : Type 1} → statement M
 count-columns-spec =

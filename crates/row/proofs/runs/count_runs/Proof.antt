@@ -6,14 +6,14 @@ use native.Mathlib.Omega.{arith}
 use lib.ListN.{length}
 use borrow.Author.Needs.{needs}
 use Rattle.bits.specs.Bits.{packedLength, bitAt}
-use Rattle.row.specs.Pass.{Passed}
+use Rattle.row.specs.Pass.{PassedTo}
 use Rattle.row.proofs.BoundedRuns.{runs-end}
 use Rattle.row.proofs.Pass.{passed-none}
 use Rattle.row.proofs.runs.count_runs.Statement.{statement}
 use Rattle.row.proofs.runs.count_runs.Tie as tie
 
 abbrev Inv-loop : tie.InvT-loop
-Inv-loop bytes first end n p₀ k₀ p k = (n ≡ packedLength end) × (k ≤ n) × Passed (bitAt bytes) (8 * k) p
+Inv-loop bytes first end n p₀ k₀ p k = (n ≡ packedLength end) × (k ≤ n) × PassedTo (bitAt bytes) (8 * k) p
 
 abbrev μ-loop : tie.MeasureT-loop
 μ-loop bytes first end n p₀ k₀ p k = n - k

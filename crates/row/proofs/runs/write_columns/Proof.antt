@@ -8,14 +8,14 @@ use lib.ListN.{length}
 use Rattle.bits.specs.Bits.{bitAt}
 use Rattle.stroke.specs.Runs.{runsOf}
 use Rattle.row.specs.Answer.{listed}
-use Rattle.row.specs.Pass.{Passed}
+use Rattle.row.specs.Pass.{PassedTo}
 use Rattle.row.proofs.Grown.{runs-more}
 use Rattle.row.proofs.Pass.{passed-few, passed-some, passed-next, passed-listed}
 use Rattle.row.proofs.runs.write_columns.Statement.{statement}
 use Rattle.row.proofs.runs.write_columns.Tie as tie
 
 abbrev Inv-loop : tie.InvT-loop
-Inv-loop bytes from to runs₀ q₀ i₀ runs q i = (i ≤ to) × Passed (bitAt bytes) i q × (runs ≡ listed (runsOf (bitAt bytes) i) runs₀) × (length runs ≡ length runs₀)
+Inv-loop bytes from to runs₀ q₀ i₀ runs q i = (i ≤ to) × PassedTo (bitAt bytes) i q × (runs ≡ listed (runsOf (bitAt bytes) i) runs₀) × (length runs ≡ length runs₀)
 
 abbrev μ-loop : tie.MeasureT-loop
 μ-loop bytes from to runs₀ q₀ i₀ runs q i = to - i
@@ -80,7 +80,7 @@ returns c =
     let i = c .before .loop in
     let a = start (c .before) .args in
     let e : i .i ≡ a .to = omega (arith, i .inv .0, c .loop-test .left) in (
-      subst (λ (k : ℕ). Passed (bitAt (a .bytes .now)) k (i .q)) e (i .inv .1),
+      subst (λ (k : ℕ). PassedTo (bitAt (a .bytes .now)) k (i .q)) e (i .inv .1),
       i .inv .2 ∙ ap (λ k. listed (runsOf (bitAt (a .bytes .now)) k) (a .runs .now)) e,
     )
 

@@ -9,7 +9,7 @@ use borrow.Author.Needs.{needs}
 use Rattle.bits.specs.Bits.{packedLength, bitAt}
 use Rattle.stroke.specs.Runs.{Run, runsOf}
 use Rattle.row.specs.Answer.{listed}
-use Rattle.row.specs.Pass.{Passed, HoldsRuns}
+use Rattle.row.specs.Pass.{PassedTo, HoldsRuns}
 use Rattle.row.proofs.Grown.{runs-more}
 use Rattle.row.proofs.BoundedRuns.{runs-first, runs-end}
 use Rattle.row.proofs.Pass.{passed-none, listed-again}
@@ -18,7 +18,7 @@ use Rattle.row.proofs.runs.write_runs.Tie as tie
 
 abbrev Inv-loop : tie.InvT-loop
 Inv-loop bytes first end runs₀ n p₀ k₀ runs p k =
-    (n ≡ packedLength end) × (k ≤ n) × Passed (bitAt bytes) (8 * k) p × (runs ≡ listed (runsOf (bitAt bytes) (8 * k)) runs₀) × (length runs ≡ length runs₀)
+    (n ≡ packedLength end) × (k ≤ n) × PassedTo (bitAt bytes) (8 * k) p × (runs ≡ listed (runsOf (bitAt bytes) (8 * k)) runs₀) × (length runs ≡ length runs₀)
 
 abbrev μ-loop : tie.MeasureT-loop
 μ-loop bytes first end runs₀ n p₀ k₀ runs p k = n - k
