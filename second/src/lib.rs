@@ -21,3 +21,4 @@ pub mod sweep;
 pub mod table;
 pub mod table_calls;
 pub mod table_stream;
+pub mod tries;

@@ -3,7 +3,7 @@
 
 use second::setting::Setting;
 use second::table_stream::Source;
-use second::{extent, paper, paper_rows, pbm, pens, row, segments, stream, table_calls};
+use second::{extent, paper, paper_rows, pbm, pens, row, segments, stream, table_calls, tries};
 use std::io::{Read, Write};
 use std::process::ExitCode;
 
@@ -11,6 +11,7 @@ const USAGE: &str = "usage: second COMMAND
   settings
   pens
   compare-pens SETTINGS ANSWERS
+  tries
   paper-differs
   random-segments N SEED
   raster-segments N SEED
@@ -40,6 +41,7 @@ fn run(words: &[&str]) -> Result<(), String> {
         ["compare-pens", settings, answers] => {
             say(pens::compare(&file(settings)?, &file(answers)?))
         }
+        ["tries"] => put(tries::report(&stream::good_settings()).as_bytes()),
         ["paper-differs"] => put((paper::report() + &paper_rows::report()).as_bytes()),
         ["random-segments", count, seed] => {
             let records = segments::random_segments(number(count)?, number(seed)?);

@@ -45,13 +45,24 @@ fn nearest_half_up(a: i128, b: i128) -> i128 {
     (2 * a + b).div_euclid(2 * b)
 }
 
+/// Step 2 asks for the near root of (u, v), the summed direction, with
+/// `whole` = L.c + R.c and s = min(L.l2, R.l1).
+#[derive(Clone, Copy, Debug, PartialEq, Eq)]
+pub struct Question {
+    pub u: i64,
+    pub v: i64,
+    pub whole: i64,
+    pub s: i64,
+}
+
 /// The part of the quarter under construction, from the bottom on: corner i
 /// lies between edge i and edge i + 1, and the first `out` corners have been
-/// put out.
+/// put out. `asked` has the near roots that were asked for so far.
 struct Construction {
     corners: Vec<Corner>,
     edges: Vec<Edge>,
     out: usize,
+    asked: Vec<Question>,
 }
 
 impl Construction {
@@ -76,6 +87,7 @@ impl Construction {
                 },
             ],
             out: 0,
+            asked: Vec::new(),
         }
     }
 
@@ -105,7 +117,9 @@ impl Construction {
         let (u, v) = (left.u + right.u, left.v + right.v);
         let mut s = left.l2.min(right.l1);
         if s > 0 {
-            let reduced = left.c + right.c - near_root(setting, u, v);
+            let whole = left.c + right.c;
+            self.asked.push(Question { u, v, whole, s });
+            let reduced = whole - near_root(setting, u, v);
             if reduced < s {
                 s = reduced;
             }
@@ -203,9 +217,9 @@ fn retained(setting: &Setting, u: i64, v: i64, c: i64, x: i64, s: i64) -> i64 {
     l1.clamp(0, s as i128) as i64
 }
 
-/// The corners of the lower right quarter, from the bottom; None for what is
-/// no setting.
-pub fn quarter(setting: &Setting) -> Option<Vec<Corner>> {
+/// The whole construction of the lower right quarter; None for what is no
+/// setting.
+fn constructed(setting: &Setting) -> Option<Construction> {
     if !setting.within_limits() {
         return None;
     }
@@ -216,7 +230,18 @@ pub fn quarter(setting: &Setting) -> Option<Vec<Corner>> {
         work.treat_corner(setting);
         work.check();
     }
-    Some(work.corners)
+    Some(work)
+}
+
+/// The corners of the lower right quarter, from the bottom; None for what is
+/// no setting.
+pub fn quarter(setting: &Setting) -> Option<Vec<Corner>> {
+    constructed(setting).map(|work| work.corners)
+}
+
+/// The near roots that building the quarter asks for, in that order.
+pub fn questions(setting: &Setting) -> Option<Vec<Question>> {
+    constructed(setting).map(|work| work.asked)
 }
 
 /// "the pen is that quarter and its mirror images in both axes, equal corners
