@@ -5,7 +5,8 @@
 --   Quarters, Ranges                        the quarter is a chain; where its corners lie
 --   Nearest, Rules                          the quarter is what the rules of specs/Steps put out
 --   Unique, Lines                           and they put out nothing else; what they come to lies on its lines
---   Most, Halving, Stack, Laid              for the code: bounds of machine numbers, the search's loop, the stack, arrays of corners
+--   Halving, Tries                          the search for the near root by halves, and how many values it tries
+--   Most, Stack, Laid                       for the code: bounds of machine numbers, the stack, arrays of corners
 --   Cornered                                the answer, by the check of the setting
 pub mod Slope
 pub mod Naturals
@@ -24,8 +25,9 @@ pub mod Nearest
 pub mod Rules
 pub mod Unique
 pub mod Lines
-pub mod Theorems
 pub mod Halving
+pub mod Tries
+pub mod Theorems
 pub mod Stack
 pub mod Laid
 pub mod Cornered

@@ -1,8 +1,6 @@
 -- What the code's structs hold, in the words of the definitions. These are asked and promised inside the crate only; no promise to its callers is made
 -- of them.
-use Prim.Native.Nat.{ℕ, zero, suc, _+_, _-_, _/_, _≤_}
-use mathlib.Core.Bool.{true, false}
-use lib.Dec.{leb}
+use Prim.Native.Nat.{ℕ, zero, suc, _+_, _≤_}
 use mathlib.Core.Path.{_≡_}
 use mathlib.Core.List.{List, _∷_}
 use lib.ListN.{set}
@@ -10,7 +8,6 @@ use lib.IntN.{ℤ}
 use Rattle.setting.specs.declared.Setting.{Setting}
 use Rattle.quarter.specs.declared.Edge.{Edge}
 use Rattle.quarter.specs.declared.Work.{Work}
-use Rattle.quarter.specs.declared.root.Interval.{Interval}
 use Rattle.quarter.specs.declared.Quarter.{Quarter}
 use Rattle.quarter.specs.Cutting.{State, Step, put, on, act}
 use Rattle.quarter.specs.Moment.{Small, Cuttable}
@@ -60,10 +57,3 @@ outcome (suc d) t = on t
 pub record Stepped (σ : Setting) (t : Work) (r : Edge) (d : ℕ) (n : Work) : Type 0 where
   pub few : n .more ≤ 2
   pub is : (rest : List Edge) → act d σ (t .x) (t .y) (t .before) r rest ≡ outcome d (state n rest)
-
--- the interval in which the near root is sought, after one try at its middle: f is low enough there, or it is not
-abbrev pub middle : Interval → ℕ
-middle i = (i .low + i .high + 1) / 2
-
-unfoldable pub halved : (ℕ → ℕ) → ℕ → Interval → Interval
-halved f t i = elim (leb (f (middle i)) t) [ true ↦ record { low = middle i; high = i .high } | false ↦ record { low = i .low; high = middle i - 1 } ]

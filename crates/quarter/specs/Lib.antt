@@ -3,6 +3,7 @@
 --   Steps               the same steps as rules, to hold against document 01's words: they stand by themselves, over whole numbers, y upwards
 --   Answer              the quarter as the code's arrays hold it
 --   Moment, Held        the quarter on the way, and the code's structs in these words
+--   Tries               the search for the near root by halves (document 02, W3)
 --   Theorems            what is proved
 pub mod NearRoot
 pub mod Cutting
@@ -10,4 +11,5 @@ pub mod Steps
 pub mod Answer
 pub mod Moment
 pub mod Held
+pub mod Tries
 pub mod Theorems

@@ -1,5 +1,5 @@
 -- What is proved of the quarter, for every setting within the limits. Each claim is a type; proofs/Theorems.antt proves it under the same name.
-use Prim.Native.Nat.{ℕ, _≤_, _<_}
+use Prim.Native.Nat.{ℕ, _+_, _*_, _-_, _≤_, _<_}
 use mathlib.Core.Path.{_≡_}
 use mathlib.Core.List.{List, [], _∷_, map}
 use lib.ListN.{length}
@@ -8,11 +8,13 @@ use Rattle.limits.specs.Sizes.{quarterMax}
 use Rattle.setting.specs.declared.Setting.{Setting}
 use Rattle.setting.specs.Setting.{Taken}
 use Rattle.quarter.specs.declared.Edge.{Edge}
+use Rattle.quarter.specs.declared.root.Interval.{Interval}
 use Rattle.quarter.specs.NearRoot.{NearRoot, nearRoot}
-use Rattle.quarter.specs.Cutting.{Corner, State, step, put, on, quarter}
+use Rattle.quarter.specs.Cutting.{Corner, State, amount, step, put, on, quarter}
 use Rattle.quarter.specs.Steps.{EdgeZ, CornerZ, startCorner, startBefore, startAfter, Puts, Comes, On, Lie}
 use Rattle.quarter.specs.Answer.{across, upwards}
 use Rattle.quarter.specs.Moment.{Moment, cornersAt, total, Ready}
+use Rattle.quarter.specs.Tries.{halved, SearchAt}
 
 -- the near root's inequality holds of the number that is computed, for every direction that building a pen can ask for, and determines it
 abbrev pub NearRootHolds : Type 0
@@ -59,3 +61,22 @@ QuarterFew = (σ : Setting) → Taken σ → length (quarter σ) ≤ quarterMax
 
 abbrev pub QuarterBox : Type 0
 QuarterBox = (σ : Setting) → Taken σ → (c : Corner) → c ∈ quarter σ → (c .x ≤ 32) × (c .y ≤ 32)
+
+-- Document 02, W3: "by halving the interval": a try leaves at most half of it, whatever is sought
+abbrev pub TryHalves : Type 0
+TryHalves = (f : ℕ → ℕ) (t : ℕ) (i : Interval) → i .low < i .high → 2 * (halved f t i .high - halved f t i .low) ≤ i .high - i .low
+
+-- "with at most 16 middle values tried for any direction met in building a pen": at every corner that building a pen comes to
+abbrev pub SixteenTries : Type 0
+SixteenTries = (σ : Setting) → Taken σ → (out : List Corner) (t : State) → Moment σ out t → (R : Edge) (rest : List Edge) → t .after ≡ R ∷ rest →
+    (tried : List ℕ) (found : ℕ) → SearchAt σ (t .before) R tried found → length tried ≤ 16
+
+-- the search comes to an end, between any two edges
+abbrev pub SearchEnds : Type 0
+SearchEnds = (σ : Setting) (L R : Edge) → (tried : List ℕ) × (found : ℕ) × SearchAt σ L R tried found
+
+-- "No answer changes": where step 1 does not put the corner out, it is cut by what step 2 says with the value that is found
+abbrev pub SearchCuts : Type 0
+SearchCuts = (σ : Setting) → Taken σ → (out : List Corner) (t : State) → Moment σ out t → (R : Edge) (rest : List Edge) → t .after ≡ R ∷ rest →
+    t .before .u * R .v ≤ 1 + t .before .v * R .u →
+    (tried : List ℕ) (found : ℕ) → SearchAt σ (t .before) R tried found → amount σ (t .before) R ≡ t .before .c + R .c - found

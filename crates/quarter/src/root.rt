@@ -4,7 +4,8 @@ ghost use mathlib.Core.Path.{_≡_};
 ghost use Prim.Native.Nat.{_≤_, _<_, min, max};
 ghost use Rattle.setting.specs.Setting.{Taken};
 ghost use Rattle.quarter.specs.NearRoot.{norm, nearRoot, lower};
-ghost use Rattle.quarter.specs.Held.{Summed, halved};
+ghost use Rattle.quarter.specs.Held.{Summed};
+ghost use Rattle.quarter.specs.Tries.{halved};
 
 // p²v² + q²u²; with p and q at most 16 that is at most 2 * 16² * 64².
 pub fn norm(s: Setting, u: u64, v: u64) -> u64
@@ -45,7 +46,9 @@ fn halved(s: Setting, square: u64, i: Interval) -> Interval
 }
 
 // The near root of (u, v), brought into low..high: the interval is halved until one value is left.
-// An edge's offset is at most 4096, so what is sought for two of them is at most 8192.
+// Document 02 (W3) has at most 16 middle values tried: `halved`, which tries one, is called here
+// only. An edge's offset is at most 4096, so what is sought for two of them is at most 8192, and
+// for that 14 are enough.
 pub fn near_root(s: Setting, u: u64, v: u64, low: u64, high: u64) -> u64
     requires setting { ⌜ Taken s ⌝ }
     requires summed { ⌜ Summed u v ⌝ }
@@ -55,8 +58,10 @@ pub fn near_root(s: Setting, u: u64, v: u64, low: u64, high: u64) -> u64
 {
     let square = s.w * s.w * norm(s, u, v);
     let mut i = Interval { low, high };
-    while i.low < i.high {
+    let mut tries: u64 = 0;
+    while tries < 16 && i.low < i.high {
         i = halved(s, square, i);
+        tries += 1;
     }
     i.low
 }

@@ -1,35 +1,13 @@
 -- Steps 1 and 2: the determinant's test, the shorter of the two counts, and the near root's reduction, each as the definition has it.
-use Prim.Native.Nat.{ℕ, _+_, _*_, _-_, _≤_, min}
-use mathlib.Core.Path.{_≡_, sym, ap, _∙_}
 use native.Mathlib.Nat.{mul-le-mul, add-le-add, le-refl}
 use native.Mathlib.Omega.{arith}
-use borrow.Author.Tests.{lt-ltb, le-ltb}
-use Rattle.setting.specs.declared.Setting.{Setting}
-use Rattle.quarter.specs.declared.Edge.{Edge}
-use Rattle.quarter.specs.NearRoot.{nearRoot}
+use borrow.Author.Tests.{lt-ltb}
 use Rattle.quarter.specs.Cutting.{amount}
-use Rattle.quarter.proofs.Halving.{brought, by-brought}
+use Rattle.quarter.proofs.Halving.{reduced}
 use Rattle.quarter.proofs.Most.{fit, summed}
 use borrow.Author.Needs.{needs}
 use Rattle.quarter.proofs.cut.amount.Statement.{statement}
 use Rattle.quarter.proofs.cut.amount.Tie as tie
-
--- where the test of step 1 lets the corner be cut, the root that was found, brought between `low` and the whole offset, gives the amount
-module _ (σ : Setting) (L R : Edge) (h : L .u * R .v ≤ 1 + L .v * R .u) where
-  abbrev whole : ℕ
-  whole = L .c + R .c
-
-  abbrev near : ℕ
-  near = nearRoot σ (L .u + R .u) (L .v + R .v)
-
-  amount-is : amount σ L R ≡ min (min (L .l2) (R .l1)) (whole - near)
-  unfolding amount
-  amount-is = rw (le-ltb _ _ h, amount)
-
-  reduced : {shorter low root : ℕ} → shorter ≡ min (L .l2) (R .l1) → low ≡ whole - shorter → root ≡ brought low whole near → whole - root ≡ amount σ L R
-  reduced {shorter} e f g =
-      ap (λ (k : ℕ). whole - k) (g ∙ ap (λ (k : ℕ). brought k whole near) f) ∙ by-brought whole shorter near
-      ∙ ap (λ (k : ℕ). min k (whole - near)) e ∙ sym amount-is
 
 -- the function's start, seen from the test and from where the shorter count is known
 abbrev at-test : tie.After-struct-known4 → tie.Start

@@ -3,7 +3,7 @@ use native.Mathlib.Nat.{mul-le-mul, le-refl}
 use native.Mathlib.Omega.{arith}
 use Prim.Native.Nat.{_*_, _-_, _≤_}
 use borrow.Author.Tests.{le-leb, lt-leb}
-use Rattle.quarter.specs.Held.{middle, halved}
+use Rattle.quarter.specs.Tries.{middle, halved}
 use Rattle.quarter.specs.NearRoot.{lower}
 use Rattle.quarter.proofs.Most.{fit}
 use borrow.Author.Needs.{needs}

@@ -1,45 +1,74 @@
--- Each try keeps the near root, brought into the interval; where one value is left, that is it.
-use mathlib.Core.Path.{_≡_, refl, ap, _∙_}
-use Prim.Native.Nat.{ℕ, _*_, _-_, _≤_}
+-- Each try keeps the near root, brought into the interval; where one value is left, that is it. Each leaves at most half of an interval that is at most 8192
+-- long, and 8192 < 2 ^ 14: so one value is left after fourteen tries, and sixteen are enough.
+use mathlib.Core.Path.{_≡_, refl, ap, subst, _∙_}
+use Prim.Native.Nat.{ℕ, _+_, _*_, _-_, _^_, _≤_, _<_}
 use native.Mathlib.Nat.{mul-le-mul}
 use native.Mathlib.Omega.{arith}
+use borrow.Author.Tests.{ltb-true, ltb-false}
 use Rattle.setting.specs.declared.Setting.{Setting}
 use Rattle.quarter.specs.declared.root.Interval.{Interval}
-use Rattle.quarter.specs.Held.{halved}
+use Rattle.quarter.specs.Tries.{halved}
 use Rattle.quarter.specs.NearRoot.{norm, lower, nearRoot}
 use Rattle.quarter.proofs.Most.{fit}
-use Rattle.quarter.proofs.Halving.{brought, Kept, halved-keeps}
+use Rattle.quarter.proofs.Halving.{brought, Shrunk, halved-shrinks, one-fewer, halved-keeps}
 use Rattle.quarter.proofs.root.near_root.Statement.{statement}
 use Rattle.quarter.proofs.root.near_root.Tie as tie
 
--- the interval brings the near root to what low..high brings it to
-record Sought (σ : Setting) (u v low high square : ℕ) (i : Interval) : Type 0 where
+-- the interval brings the near root to what low..high brings it to, and what is left of fourteen tries is enough for it
+record Sought (σ : Setting) (u v low high square : ℕ) (i : Interval) (tries : ℕ) : Type 0 where
   square-is : square ≡ σ .w * σ .w * norm σ u v
   ordered : i .low ≤ i .high
   small : i .high ≤ 8192
   same : brought (i .low) (i .high) (nearRoot σ u v) ≡ brought low high (nearRoot σ u v)
+  short : i .high - i .low < 2 ^ (14 - tries)
 
 abbrev Inv-loop : tie.InvT-loop
-Inv-loop s u v low high square i₀ i = Sought s u v low high square i
+Inv-loop s u v low high square i₀ tries₀ i tries = Sought s u v low high square i tries
 
 abbrev μ-loop : tie.MeasureT-loop
-μ-loop s u v low high square i₀ i = i .high - i .low
+μ-loop s u v low high square i₀ tries₀ i tries = 16 - tries
 
 -- the function's start, seen from the loop
 abbrev start : tie.At-loop Inv-loop μ-loop → tie.Start Inv-loop μ-loop
 start c = c .before .before .before
 
--- where the interval that was tried stood, seen from the end of a round
-abbrev tried : tie.After-halved Inv-loop μ-loop → tie.At-loop Inv-loop μ-loop
-tried c = c .before .before .before
+-- where the interval that is to be tried stands, seen from the try, and from the end of a round
+abbrev untried : tie.Then1 Inv-loop μ-loop → tie.At-loop Inv-loop μ-loop
+untried c = c .before .before .before
 
--- what the try keeps
-kept : (c : tie.After-halved Inv-loop μ-loop) → let a = start (tried c) .args in Kept (nearRoot (a .s) (a .u) (a .v)) (tried c .loop .i) (c .halved .result)
-kept c =
+abbrev tried : tie.After-halved Inv-loop μ-loop → tie.At-loop Inv-loop μ-loop
+tried c = untried (c .before)
+
+-- more than one value is left there
+unsettled : (c : tie.Then1 Inv-loop μ-loop) → untried c .loop .i .low < untried c .loop .i .high
+unsettled c = ltb-true _ _ (c .if1 .taken)
+
+-- what the try leaves, by the definition
+left-is : (c : tie.After-halved Inv-loop μ-loop) → let a = start (tried c) .args in
+    c .halved .result ≡ halved (lower (a .s)) (a .s .w * a .s .w * norm (a .s) (a .u) (a .v)) (tried c .loop .i)
+left-is c =
+    let l = tried c .loop in
+    c .halved .ensures ∙ ap (λ (q : ℕ). halved (lower (start (tried c) .args .s)) q (l .i)) (l .inv .square-is)
+
+-- it is at most half
+shrunk : (c : tie.After-halved Inv-loop μ-loop) → Shrunk (tried c .loop .i) (c .halved .result)
+shrunk c = halved-shrinks _ _ (tried c .loop .i) (unsettled (c .before)) (left-is c)
+
+-- it brings the near root to the same
+same : (c : tie.After-halved Inv-loop μ-loop) → let a = start (tried c) .args in let i = tried c .loop .i in let r = c .halved .result in
+    brought (r .low) (r .high) (nearRoot (a .s) (a .u) (a .v)) ≡ brought (i .low) (i .high) (nearRoot (a .s) (a .u) (a .v))
+same c =
     let s = start (tried c) in
-    let i = tried c .loop .i in
-    halved-keeps (s .args .s) (s .pre .0) (s .args .u) (s .args .v) (s .pre .1 .0) i (c .before .if1 .taken)
-    (c .halved .ensures ∙ ap (λ (q : ℕ). halved (lower (s .args .s)) q i) (tried c .loop .inv .square-is))
+    halved-keeps (s .args .s) (s .pre .0) (s .args .u) (s .args .v) (s .pre .1 .0) (tried c .loop .i) (unsettled (c .before)) (left-is c)
+
+-- and one try fewer is enough for it
+short : (c : tie.After-halved Inv-loop μ-loop) → c .halved .result .high - c .halved .result .low < 2 ^ (14 - (tried c .loop .tries + 1))
+short c =
+    let l = tried c .loop in
+    let u = unsettled (c .before) in
+    let fewer = one-fewer (14 - l .tries) _ _ (omega arith) (shrunk c .half) (l .inv .short) in
+    let e : 14 - l .tries - 1 ≡ 14 - (l .tries + 1) = omega arith in
+    subst (λ (b : ℕ). c .halved .result .high - c .halved .result .low < 2 ^ b) e (fewer .1)
 
 mul-square : tie.Need-mul-square Inv-loop μ-loop
 mul-square c = let t = c .before .pre .0 in fit (mul-le-mul (t .w-high) (t .w-high)) tt
@@ -58,22 +87,37 @@ loop-holds c =
       ordered = s .pre .1 .1 .0;
       small = s .pre .1 .1 .1;
       same = refl;
+      short = omega (arith, s .pre .1 .1 .1);
     }
 
 halved-requires : tie.Need-halved-requires Inv-loop μ-loop
-halved-requires c κs = let at-loop = c .before .before in (start at-loop .pre .0, (c .if1 .taken, at-loop .loop .inv .small))
+halved-requires c κs = (start (untried c) .pre .0, (unsettled c, untried c .loop .inv .small))
+
+add-tries : tie.Need-add-tries Inv-loop μ-loop
+add-tries c = omega arith
 
 loop-less : tie.Need-loop-less Inv-loop μ-loop
-loop-less c = kept c .shorter
+loop-less c = omega arith
 
 loop-again : tie.Need-loop-again Inv-loop μ-loop
 loop-again c =
-    let k = kept c in
+    let k = shrunk c in
     let i = tried c .loop .inv in
-    record { square-is = i .square-is; ordered = k .ordered; small = omega (arith, k .high, i .small); same = k .same ∙ i .same }
+    record { square-is = i .square-is; ordered = k .ordered; small = omega (arith, k .high, i .small); same = same c ∙ i .same; short = short c }
 
+-- one value is left
 returns : tie.Need-returns Inv-loop μ-loop
-returns c = let i = c .before .before .loop .inv in omega (arith, c .if1 .left, i .ordered, i .same)
+returns c =
+    let l = c .before .before .before .loop in
+    omega (arith, ltb-false (l .i .low) (l .i .high) (c .if1 .left), l .inv .ordered, l .inv .same)
+
+-- the tries are used up, and so one value is left
+returns-2 : tie.Need-returns-2 Inv-loop μ-loop
+returns-2 c =
+    let l = c .before .loop in
+    let e : 14 - l .tries ≡ 0 = omega arith in
+    let d : l .i .high - l .i .low < 1 = subst (λ (b : ℕ). l .i .high - l .i .low < 2 ^ b) e (l .inv .short) in
+    omega (arith, d, l .inv .ordered, l .inv .same)
 
 pub near-root-spec : {M : Type 1} → statement M
 near-root-spec =
@@ -86,6 +130,8 @@ near-root-spec =
     mul-square-2
     loop-holds
     halved-requires
+    add-tries
     loop-less
     loop-again
-    returns)
+    returns
+    returns-2)
