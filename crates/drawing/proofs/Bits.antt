@@ -20,8 +20,10 @@ use Rattle.stroke.proofs.Path.{black-path}
 use Rattle.bits.specs.Bits.{packed, packedLength}
 use Rattle.bits.proofs.Tests.{one-of, first-of, second-of, bit-set}
 use Rattle.bits.proofs.Bytes.{packed-length, packed-bit, packed-small}
-use Rattle.pbm.specs.Pbm.{decimal, header, topFirst}
-use Rattle.pbm.proofs.Theorems.{decimal-reads, top-first}
+use Rattle.text.specs.Decimal.{decimal}
+use Rattle.text.proofs.Theorems.{decimal-reads}
+use Rattle.pbm.specs.Pbm.{header, topFirst}
+use Rattle.pbm.proofs.Theorems.{top-first}
 use Rattle.drawing.specs.Strokes.{Drawing, pathOf}
 use Rattle.drawing.specs.Film.{rowOf, film, filmPut}
 use Rattle.drawing.specs.Theorems.{RowWidth, settingOf, DrawableFilm, StrokeBlack, BitBlack, FilmRow, FilmBits, FilmBit}

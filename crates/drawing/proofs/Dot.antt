@@ -20,7 +20,8 @@ use Rattle.stroke.specs.Runs.{blackAt}
 use Rattle.limits.specs.declared.Verdict.the-variants.{Passed}
 use Rattle.stroke.specs.Sweep.{pathPoints}
 use Rattle.bits.specs.Bits.{bitsFrom, bytesFrom, packed}
-use Rattle.pbm.specs.Pbm.{lastDigits, header, topFirst, file}
+use Rattle.text.specs.Decimal.{lastDigits}
+use Rattle.pbm.specs.Pbm.{header, topFirst, file}
 use Rattle.drawing.specs.Settings.{tabledFrom}
 use Rattle.drawing.specs.Strokes.{pathOf, firstFrom, filmVerdict}
 use Rattle.drawing.specs.Film.{rowOf}

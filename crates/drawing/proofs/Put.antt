@@ -13,8 +13,10 @@ use Rattle.limits.proofs.Sizes.{size-iff}
 use Rattle.checks.specs.Checks.{rasterVerdict}
 use Rattle.checks.specs.Answer.{done}
 use Rattle.bits.specs.Bits.{packedLength}
-use Rattle.pbm.specs.Pbm.{decimal, header, topFirst, started, headerPut}
-use Rattle.pbm.proofs.Decimal.{size-few}
+use Rattle.text.specs.Decimal.{decimal}
+use Rattle.text.specs.Put.{started}
+use Rattle.text.proofs.Decimal.{size-few}
+use Rattle.pbm.specs.Pbm.{header, topFirst, headerPut}
 use Rattle.pbm.proofs.Pieces.{header-length, raster-sizes}
 use Rattle.pbm.proofs.Theorems.{top-first}
 use Rattle.drawing.specs.Strokes.{Drawing}

@@ -16,7 +16,8 @@ use Rattle.limits.specs.Sizes.{inRange}
 use Rattle.stroke.specs.Runs.{blackAt}
 use Rattle.stroke.specs.Sweep.{pathPoints}
 use Rattle.bits.specs.Bits.{bitsFrom, bytesFrom, packed}
-use Rattle.pbm.specs.Pbm.{lastDigits, topFirst, file}
+use Rattle.text.specs.Decimal.{lastDigits}
+use Rattle.pbm.specs.Pbm.{topFirst, file}
 use Rattle.drawing.specs.Settings.{tableOf}
 use Rattle.drawing.specs.Strokes.{Drawing}
 use Rattle.drawing.specs.Film.{film}

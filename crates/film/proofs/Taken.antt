@@ -12,7 +12,8 @@ use Rattle.aperture.specs.Table.{defined, looked}
 use Rattle.aperture.specs.Reachable.{Reachable}
 use Rattle.checks.specs.Checks.{coordinateFrom}
 use Rattle.checks.specs.Answer.{given}
-use Rattle.pbm.specs.Pbm.{lastDigits, header, fileOffer}
+use Rattle.text.specs.Decimal.{lastDigits}
+use Rattle.pbm.specs.Pbm.{header, fileOffer}
 use Rattle.drawing.specs.Settings.{tabledFrom}
 use Rattle.drawing.specs.Strokes.{pathOf, firstFrom}
 use Rattle.drawing.specs.Film.{film, filmPut}

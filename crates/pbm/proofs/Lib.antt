@@ -1,6 +1,4 @@
--- Decimal: the digits that `io::decimal` writes. Pieces: the header, piece by piece. Refusals: what is refused. Digits: what digits read as. Theorems: the other claims.
-pub mod Decimal
+-- Pieces: the header, piece by piece. Refusals: what is refused. Theorems: the other claims.
 pub mod Pieces
 pub mod Refusals
-pub mod Digits
 pub mod Theorems

@@ -9,13 +9,12 @@ use lib.Dec.{ltb}
 use lib.ListN.{length, getD, drop, length-append, List·getD-append}
 use lib.Seq.{slice, take-at, drop-at, getD-at, getD-append-add}
 use borrow.Author.Tests.{ltb-true, ltb-false}
-use Rattle.pbm.specs.Pbm.{decimal, headed, topFirst}
-use Rattle.pbm.specs.Theorems.{Reads, DecimalReads, HeaderReads, TopFirst}
+use Rattle.text.specs.Decimal.{decimal}
+use Rattle.text.specs.Theorems.{Reads}
+use Rattle.text.proofs.Theorems.{decimal-reads}
+use Rattle.pbm.specs.Pbm.{headed, topFirst}
+use Rattle.pbm.specs.Theorems.{HeaderReads, TopFirst}
 use Rattle.pbm.proofs.Pieces.{header-length}
-use Rattle.pbm.proofs.Digits.{digits-read}
-
-pub decimal-reads : DecimalReads
-decimal-reads n = digits-read n
 
 -- ---- the header
 -- what stands between two others

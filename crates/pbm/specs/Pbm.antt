@@ -1,24 +1,11 @@
 -- Document 01, "Cases" and "Units and sizes": a raw PBM file.
-use Prim.Native.Nat.{ℕ, zero, suc, _+_, _/_, _%_}
-use mathlib.Core.Bool.{true, false}
+use Prim.Native.Nat.{ℕ, zero, suc}
 use mathlib.Core.List.{List, [], _∷_, _++_}
-use lib.Dec.{ltb}
-use lib.ListN.{length, drop}
+use lib.ListN.{length}
 use Rattle.checks.specs.Checks.{rasterVerdict}
 use Rattle.checks.specs.Answer.{Result, Offer, given}
-
--- the ASCII code of a digit below 10
-abbrev pub digit : ℕ → ℕ
-digit d = 48 + d
-
--- at most k digits of n, ending with its last one
-unfoldable pub lastDigits : ℕ → ℕ → List ℕ
-lastDigits zero n = []
-lastDigits (suc k) n = elim (ltb n 10) [ true ↦ digit n ∷ [] | false ↦ lastDigits k (n / 10) ++ (digit (n % 10) ∷ []) ]
-
--- "decimal without leading zeros"; a number has no more digits than its successor counts
-abbrev pub decimal : ℕ → List ℕ
-decimal n = lastDigits (suc n) n
+use Rattle.text.specs.Decimal.{decimal}
+use Rattle.text.specs.Put.{started}
 
 -- "the characters P4, newline, 5, space, 3, newline": here with any digits of the columns and of the rows
 abbrev pub headed : List ℕ → List ℕ → List ℕ
@@ -36,10 +23,6 @@ topFirst (suc j) row = row j ++ topFirst j row
 -- a whole file: the header and the packed rows
 abbrev pub file : ℕ → ℕ → (ℕ → List ℕ) → List ℕ
 file columns rows row = header columns rows ++ topFirst rows row
-
--- the buffer b with p at its start
-abbrev pub started : List ℕ → List ℕ → List ℕ
-started p b = p ++ drop (length p) b
 
 -- what a call offers that has this file: it stands at the start of the buffer, the rest of which is unchanged
 abbrev pub fileOffer : List ℕ → List ℕ → Offer ℕ

@@ -1,6 +1,6 @@
 -- What a raw PBM file is, by places and values, and what a call refuses that puts one. The claims are types; proofs/Theorems.antt and proofs/Refusals.antt prove
 -- each under its name.
-use Prim.Native.Nat.{ℕ, _+_, _-_, _*_, _^_, _≤_, _<_}
+use Prim.Native.Nat.{ℕ, _+_, _-_, _*_, _<_}
 use mathlib.Core.Path.{_≡_}
 use mathlib.Core.Logic.{_↔_}
 use mathlib.Core.List.{List, [], _∷_}
@@ -8,22 +8,8 @@ use lib.ListN.{length, getD, take}
 use lib.Seq.{slice}
 use Rattle.limits.specs.Exactly.{_when_else_, done, BadRaster, NoRoom}
 use Rattle.checks.specs.Answer.{Result}
-use Rattle.pbm.specs.Pbm.{decimal, header, topFirst, headerPut}
-
--- what a list of digits reads as: each counts its value, its ASCII code less 48, times ten for each digit behind it
-abbrev pub readsAs : List ℕ → ℕ
-readsAs [] = 0
-readsAs (c ∷ l) = (c - 48) * 10 ^ length l + readsAs l
-
--- "decimal without leading zeros": some digits, of the ASCII codes 48 to 57, that read as n; a 0 stands first only where it stands alone
-pub record Reads (l : List ℕ) (n : ℕ) : Type 0 where
-  pub some : 1 ≤ length l
-  pub digits : (i : ℕ) → i < length l → (48 ≤ getD l i 0) × (getD l i 0 ≤ 57)
-  pub value : readsAs l ≡ n
-  pub no-leading-zero : getD l 0 0 ≡ 48 → length l ≡ 1
-
-abbrev pub DecimalReads : Type 0
-DecimalReads = (n : ℕ) → Reads (decimal n) n
+use Rattle.text.specs.Theorems.{Reads}
+use Rattle.pbm.specs.Pbm.{header, topFirst, headerPut}
 
 -- "the characters P4, newline, 5, space, 3, newline"; "Sizes are decimal without leading zeros, columns first": the columns' digits are `wide`, the rows' `high`
 pub record HeaderOf (columns rows : ℕ) (l : List ℕ) : Type 0 where

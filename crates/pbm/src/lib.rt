@@ -4,33 +4,19 @@ use limits::Verdict;
 ghost use mathlib.Core.Path.{_≡_};
 ghost use Prim.Native.Nat.{_+_, _≤_};
 ghost use lib.ListN.{length};
-ghost use lib.Seq.{paste};
-ghost use Rattle.pbm.specs.Pbm.{headed, started, headerPut};
-
-// Stores the bytes of src from index at on.
-fn put(out: &mut [u8], at: usize, src: &[u8])
-    requires { ⌜ at + length (now src) ≤ length (now out) ⌝ }
-    ensures { λ _. ⌜ now (out .exit) ≡ paste (now (out .entry)) at (now (src .entry)) (length (now (src .entry))) ⌝ }
-{
-    let mut i = 0;
-    while i < src.len() {
-        out[at + i] = src[i];
-        i += 1;
-    }
-}
+ghost use Rattle.text.specs.Put.{started};
+ghost use Rattle.pbm.specs.Pbm.{headed, headerPut};
 
 // Puts the header with these digits of the columns and of the rows at the start of out.
 fn put_digits(out: &mut [u8], columns: &[u8], rows: &[u8])
     requires { ⌜ length (now columns) + length (now rows) + 5 ≤ length (now out) ⌝ }
     ensures { λ _. ⌜ now (out .exit) ≡ started (headed (now (columns .entry)) (now (rows .entry))) (now (out .entry)) ⌝ }
 {
-    let n = columns.len();
-    let m = rows.len();
-    put(out, 0, b"P4\n");
-    put(out, 3, columns);
-    put(out, n + 3, b" ");
-    put(out, n + 4, rows);
-    put(out, n + m + 4, b"\n");
+    let letters = text::put(out, 0, b"P4\n");
+    let wide = text::put(out, letters, columns);
+    let space = text::put(out, wide, b" ");
+    let high = text::put(out, space, rows);
+    text::put(out, high, b"\n");
 }
 
 // Puts the header of a film of so many columns and rows at the start of out, and counts its bytes.

@@ -1,4 +1,4 @@
--- Five pieces, one behind the other.
+-- Five pieces, each behind the one before. There is room for all.
 use Rattle.pbm.proofs.Pieces.{five-pieces}
 use denote.Ref.{now}
 use borrow.Author.Needs.{needs}
@@ -21,26 +21,14 @@ put-requires c κs = search needs
 put-requires-2 : tie.Need-put-requires-2
 put-requires-2 c κs = search needs
 
-add-put : tie.Need-add-put
-add-put c = search needs
-
 slice-aggregate-put-2 : tie.Need-slice-aggregate-put-2
 slice-aggregate-put-2 c = search needs
 
 put-requires-3 : tie.Need-put-requires-3
 put-requires-3 c κs = search needs
 
-add-put-2 : tie.Need-add-put-2
-add-put-2 c = search needs
-
 put-requires-4 : tie.Need-put-requires-4
 put-requires-4 c κs = search needs
-
-add-put-3 : tie.Need-add-put-3
-add-put-3 c = search needs
-
-add-put-4 : tie.Need-add-put-4
-add-put-4 c = search needs
 
 slice-aggregate-put-3 : tie.Need-slice-aggregate-put-3
 slice-aggregate-put-3 c = search needs
@@ -59,7 +47,7 @@ returns c =
     let p₂ = p₃ .before .before .before .before .before in
     let p₁ = p₂ .before .before .before .before in
     let a = start p₁ .args in
-    five-pieces (now (a .columns)) (now (a .rows)) (now (a .out))
+    five-pieces (now (a .columns)) (now (a .rows)) (now (a .out)) (start p₁ .pre)
     (p₁ .put .ensures)
     (p₂ .put2 .ensures)
     (p₃ .put3 .ensures)
@@ -73,13 +61,9 @@ put-digits-spec =
     slice-aggregate-put
     put-requires
     put-requires-2
-    add-put
     slice-aggregate-put-2
     put-requires-3
-    add-put-2
     put-requires-4
-    add-put-3
-    add-put-4
     slice-aggregate-put-3
     put-requires-5
     same-length

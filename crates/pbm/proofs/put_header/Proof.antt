@@ -11,8 +11,9 @@ use Rattle.checks.specs.Checks.{roomVerdict}
 use Rattle.checks.specs.Answer.{Offer, done}
 use Rattle.checks.proofs.Verdicts.{room-passed}
 use Rattle.checks.proofs.Given.{refused-here, passed-here, no-room, room-left}
-use Rattle.pbm.specs.Pbm.{decimal, header, fileOffer}
-use Rattle.pbm.proofs.Decimal.{Written, written, size-short}
+use Rattle.text.specs.Decimal.{decimal}
+use Rattle.text.proofs.Decimal.{Written, written, size-short}
+use Rattle.pbm.specs.Pbm.{header, fileOffer}
 use Rattle.pbm.proofs.Pieces.{header-length, same-digits, raster-sizes}
 use borrow.Author.Needs.{needs}
 use Rattle.pbm.proofs.put_header.Statement.{statement}

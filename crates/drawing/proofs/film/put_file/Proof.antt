@@ -9,7 +9,8 @@ use denote.Ref.{now}
 use borrow.Author.Needs.{needs}
 use Rattle.bits.specs.Bits.{packedLength}
 use Rattle.checks.specs.Answer.{Result, done}
-use Rattle.pbm.specs.Pbm.{header, topFirst, started}
+use Rattle.text.specs.Put.{started}
+use Rattle.pbm.specs.Pbm.{header, topFirst}
 use Rattle.drawing.specs.Strokes.{Drawing, drawingOf}
 use Rattle.drawing.specs.Film.{rowOf}
 use Rattle.drawing.proofs.Rows.{replaced}

@@ -12,7 +12,7 @@ use borrow.Author.Tests.{lt-ltb, le-ltb, ltb-true, ltb-false, leb-true, leb-fals
 use Rattle.io.specs.Digits.{glyph, digits, Fewest}
 use Rattle.limits.specs.Sizes.{isSize}
 use Rattle.limits.proofs.Sizes.{size-iff}
-use Rattle.pbm.specs.Pbm.{digit, lastDigits, decimal}
+use Rattle.text.specs.Decimal.{digit, lastDigits, decimal}
 
 glyph-digit : (d : ℕ) → d < 10 → glyph d ≡ digit d
 glyph-digit d h = rw (lt-ltb d 10 h)
@@ -84,8 +84,11 @@ few (suc k) n (suc f) h = go (ltb n 10) refl (few k (n / 10) f (div-lt-iff-lt-mu
     go true e r = let l = ap length (one-digit f n (ltb-true n 10 e)) in omega (arith, l)
     go false e r = let l = ap length (digit-more f n (ltb-false n 10 e)) ∙ length-append (lastDigits f (n / 10)) (digit (n % 10) ∷ []) in omega (arith, l, r)
 
+-- a number below 100,000 has five digits at most, and a size is one of them
+pub few-digits : (n : ℕ) → n < 100000 → length (decimal n) ≤ 5
+few-digits n h = few 4 n (suc n) h
+
 pub size-few : (n : ℕ) → isSize n ≡ true → length (decimal n) ≤ 5
 size-few n h =
     let s : n ≤ 16384 = size-iff n .0 h .few in
-    let b : n < 100000 = omega arith in
-    few 4 n (suc n) b
+    few-digits n (omega arith)

@@ -9,9 +9,9 @@ use mathlib.Core.List.{List, [], _∷_, _++_}
 use lib.Dec.{ltb}
 use lib.ListN.{length, getD, length-append, List·getD-append}
 use borrow.Author.Tests.{ltb-true, ltb-false}
-use Rattle.pbm.specs.Pbm.{digit, lastDigits}
-use Rattle.pbm.specs.Theorems.{readsAs, Reads}
-use Rattle.pbm.proofs.Decimal.{one-digit, digit-more}
+use Rattle.text.specs.Decimal.{digit, lastDigits}
+use Rattle.text.specs.Theorems.{readsAs, Reads}
+use Rattle.text.proofs.Decimal.{one-digit, digit-more}
 
 -- ---- one digit more at the end: all before it count ten times as much
 read-more : (l : List ℕ) (c : ℕ) → readsAs (l ++ (c ∷ [])) ≡ 10 * readsAs l + (c - 48)

@@ -8,8 +8,8 @@ use lib.ListN.{length, getD, set, length-set}
 use lib.Seq.{paste, paste-zero, paste-suc}
 use denote.Ref.{now}
 use borrow.Author.Needs.{needs}
-use Rattle.pbm.proofs.put.Statement.{statement}
-use Rattle.pbm.proofs.put.Tie as tie
+use Rattle.text.proofs.store.Statement.{statement}
+use Rattle.text.proofs.store.Tie as tie
 
 abbrev Inv-loop : tie.InvT-loop
 Inv-loop out₀ at src i₀ out i = (i ≤ length src) × (length out ≡ length out₀) × (out ≡ paste out₀ at src i)
@@ -57,8 +57,8 @@ returns c =
     let e : l .i ≡ length (now (a .src)) = omega arith in
     l .inv .2 ∙ ap (paste (now (a .out)) (a .at) (now (a .src))) e
 
-pub put-spec : {M : Type 1} → statement M
-put-spec =
+pub store-spec : {M : Type 1} → statement M
+store-spec =
     tie.close
     (tie.spec
     Inv-loop
