@@ -5,7 +5,6 @@ use native.Mathlib.Omega.{arith}
 use mathlib.Core.Path.{_≡_, refl, ap, _∙_}
 use mathlib.Core.List.{List, _∷_}
 use lib.ListN.{length, take, replicate, length-append, length-replicate}
-use borrow.Author.Tests.{le-leb}
 use Rattle.limits.specs.Sizes.{rasterMax}
 use Rattle.limits.specs.declared.Verdict.{Verdict}
 use Rattle.limits.specs.declared.Verdict.the-variants.{Passed}
@@ -13,11 +12,9 @@ use Rattle.limits.proofs.Sizes.{size-iff}
 use Rattle.checks.specs.Checks.{rasterVerdict}
 use Rattle.checks.specs.Answer.{done}
 use Rattle.bits.specs.Bits.{packedLength}
-use Rattle.text.specs.Decimal.{decimal}
 use Rattle.text.specs.Put.{started}
-use Rattle.text.proofs.Decimal.{size-few}
 use Rattle.pbm.specs.Pbm.{header, topFirst, headerPut}
-use Rattle.pbm.proofs.Pieces.{header-length, raster-sizes}
+use Rattle.pbm.proofs.Pieces.{header-few, header-whole, raster-sizes}
 use Rattle.pbm.proofs.Theorems.{top-first}
 use Rattle.drawing.specs.Strokes.{Drawing}
 use Rattle.drawing.specs.Film.{rowUpTo, rowOf, film, filmLength, Raster}
@@ -40,7 +37,7 @@ film-long d columns rows =
 -- a header has at most 15 bytes, and a packed row 2,048
 pub header-most : {columns rows : ℕ} → Raster columns rows → length (header columns rows) ≤ 15
 header-most {columns} {rows} s =
-    omega (arith, header-length (decimal columns) (decimal rows), size-few columns (size-iff columns .1 (s .columns-size)), size-few rows (size-iff rows .1 (s .rows-size)))
+    header-few columns rows (size-iff columns .1 (s .columns-size)) (size-iff rows .1 (s .rows-size))
 
 pub rows-most : {columns rows : ℕ} → Raster columns rows → rows * packedLength columns ≤ rasterMax * 2048
 rows-most {columns} {rows} s = let w : packedLength columns ≤ 2048 = omega (arith, s .columns-size .few) in mul-le-mul (s .rows-size .few) w
@@ -48,7 +45,7 @@ rows-most {columns} {rows} s = let w : packedLength columns ≤ 2048 = omega (ar
 -- the header that is put into that many bytes
 pub header-put-whole : {columns rows : ℕ} → Raster columns rows → (b : List ℕ) → length (header columns rows) ≤ length b →
     headerPut columns rows b ≡ record { answer = done (length (header columns rows)); list = started (header columns rows) b }
-header-put-whole {columns} {rows} s b l = rw (size-iff columns .1 (s .columns-size), size-iff rows .1 (s .rows-size), le-leb (length (header columns rows)) (length b) l)
+header-put-whole {columns} {rows} s b l = header-whole columns rows (size-iff columns .1 (s .columns-size)) (size-iff rows .1 (s .rows-size)) b l
 
 -- the check of the raster, where it is passed
 pub raster-passed : (columns rows : ℕ) {v : Verdict} → v ≡ rasterVerdict columns rows → v ≡ Passed → Raster columns rows

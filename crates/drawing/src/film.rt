@@ -10,9 +10,7 @@ ghost use Rattle.pbm.specs.Pbm.{topFirst};
 ghost use Rattle.drawing.specs.Strokes.{drawingOf};
 ghost use Rattle.drawing.specs.Film.{rowOf, film, filmLength, Raster};
 
-// How many bytes a header and a packed row have at most.
-const HEADER_MAX: usize = 15;
-
+// How many bytes a packed row has at most.
 const ROW_MAX: usize = (limits::RASTER_MAX + 7) / 8;
 
 // Fills out with the rows of the film, each as wide as the part, the top row first. The part is
@@ -62,7 +60,7 @@ pub fn length_of(columns: u64, rows: u64) -> usize
     requires { ⌜ Raster columns rows ⌝ }
     ensures { λ r. ⌜ r ≡ filmLength columns rows ⌝ }
 {
-    let mut header = [0u8; HEADER_MAX];
+    let mut header = [0u8; pbm::HEADER_MAX];
     let put = pbm::put_header(&mut header, columns, rows);
     put.count as usize + rows as usize * row_length(columns)
 }

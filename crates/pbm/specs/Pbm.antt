@@ -1,7 +1,10 @@
 -- Document 01, "Cases" and "Units and sizes": a raw PBM file.
-use Prim.Native.Nat.{ℕ, zero, suc}
+use Prim.Native.Nat.{ℕ, zero, suc, _*_}
+use mathlib.Core.Bool.{cond, _&&_}
 use mathlib.Core.List.{List, [], _∷_, _++_}
 use lib.ListN.{length}
+use Rattle.limits.specs.Sizes.{isSize}
+use Rattle.bits.specs.Bits.{packedLength}
 use Rattle.checks.specs.Checks.{rasterVerdict}
 use Rattle.checks.specs.Answer.{Result, Offer, given}
 use Rattle.text.specs.Decimal.{decimal}
@@ -23,6 +26,10 @@ topFirst (suc j) row = row j ++ topFirst j row
 -- a whole file: the header and the packed rows
 abbrev pub file : ℕ → ℕ → (ℕ → List ℕ) → List ℕ
 file columns rows row = header columns rows ++ topFirst rows row
+
+-- "A packed row fills ceil(columns/8) bytes": how many bytes all rows fill, and 0 where there is no raster of these sizes
+abbrev pub dataLength : ℕ → ℕ → ℕ
+dataLength columns rows = cond (isSize columns && isSize rows) (rows * packedLength columns) 0
 
 -- what a call offers that has this file: it stands at the start of the buffer, the rest of which is unchanged
 abbrev pub fileOffer : List ℕ → List ℕ → Offer ℕ

@@ -1,14 +1,16 @@
--- What a raw PBM file is, by places and values, and what a call refuses that puts one. The claims are types; proofs/Theorems.antt and proofs/Refusals.antt prove
--- each under its name.
+-- What a raw PBM file is, by places and values, what is read as its header, and what a call refuses that puts one. The claims are types; proofs/Theorems.antt,
+-- proofs/Headed.antt and proofs/Refusals.antt prove each under its name.
 use Prim.Native.Nat.{ℕ, _+_, _-_, _*_, _<_}
 use mathlib.Core.Path.{_≡_}
 use mathlib.Core.Logic.{_↔_}
-use mathlib.Core.List.{List, [], _∷_}
+use mathlib.Core.List.{List, [], _∷_, _++_}
 use lib.ListN.{length, getD, take}
 use lib.Seq.{slice}
 use Rattle.limits.specs.Exactly.{_when_else_, done, BadRaster, NoRoom}
 use Rattle.checks.specs.Answer.{Result}
 use Rattle.text.specs.Theorems.{Reads}
+use Rattle.pbm.specs.declared.read.Header.the-variants.{Sound}
+use Rattle.pbm.specs.Reading.{headerIn}
 use Rattle.pbm.specs.Pbm.{header, topFirst, headerPut}
 
 -- "the characters P4, newline, 5, space, 3, newline"; "Sizes are decimal without leading zeros, columns first": the columns' digits are `wide`, the rows' `high`
@@ -24,6 +26,21 @@ pub record HeaderOf (columns rows : ℕ) (l : List ℕ) : Type 0 where
 
 abbrev pub HeaderReads : Type 0
 HeaderReads = (columns rows : ℕ) → HeaderOf columns rows (header columns rows)
+
+-- the text starts with document 01's header of so many columns and rows, n bytes long, and the sizes are inside their limits
+pub record Headed (s : List ℕ) (columns rows n : ℕ) : Type 0 where
+  pub rest : List ℕ
+  pub text : s ≡ header columns rows ++ rest
+  pub sizes : ¬ BadRaster columns rows
+  pub long : n ≡ length (header columns rows)
+
+-- W1: "The header must have exactly document 01's form, with a size inside its limits"
+abbrev pub HeaderSound : Type 0
+HeaderSound = (s : List ℕ) (columns rows n : ℕ) → (headerIn s ≡ Sound columns rows n) ↔ Headed s columns rows n
+
+-- no header is longer than 15 bytes, so that so many of a file are enough
+abbrev pub HeaderShort : Type 0
+HeaderShort = (s : List ℕ) → headerIn (take 15 s) ≡ headerIn s
 
 -- "The top row comes first": where each row has `width` bytes, byte k of row j stands behind those of the rows above it, which are rows - 1 - j
 pub record Downwards (rows width : ℕ) (row : ℕ → List ℕ) (l : List ℕ) : Type 0 where

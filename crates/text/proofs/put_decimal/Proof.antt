@@ -1,7 +1,5 @@
 -- The digits that `io::decimal` writes are the number's.
-use Prim.Native.Nat.{ℕ}
 use mathlib.Core.Path.{ap, _∙_}
-use mathlib.Core.List.{List}
 use denote.Ref.{now}
 use borrow.Author.Needs.{needs}
 use Rattle.text.specs.Put.{putAt}
