@@ -8,6 +8,8 @@ pub mod extent;
 pub mod fast;
 pub mod kinds;
 pub mod large;
+pub mod overlay;
+pub mod overlay_pairs;
 pub mod paper;
 pub mod paper_rows;
 pub mod pbm;

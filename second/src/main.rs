@@ -1,9 +1,11 @@
-//! The second program: a literal, slow reading of document 01, to compare the
-//! drawer with. See README.md for the commands and their byte streams.
+//! The second program: a literal, slow reading of document 01 and of W1 in document
+//! 02, to compare the proved programs with. See README.md for the commands and their
+//! byte streams.
 
 use second::setting::Setting;
 use second::table_stream::Source;
-use second::{extent, paper, paper_rows, pbm, pens, row, segments, stream, table_calls, tries};
+use second::{extent, overlay, overlay_pairs, paper, paper_rows, pbm, pens, row, segments, stream};
+use second::{table_calls, tries};
 use std::io::{Read, Write};
 use std::process::ExitCode;
 
@@ -20,7 +22,10 @@ const USAGE: &str = "usage: second COMMAND
   table-calls N SEED
   compare-table-calls COMMANDS ANSWERS
   row COLUMNS ROWS ROW ROOM W P Q X Y [X Y ...]
-  pbm COLUMNS ROWS W P Q X Y [X Y ...] [/ W P Q X Y ...]";
+  pbm COLUMNS ROWS W P Q X Y [X Y ...] [/ W P Q X Y ...]
+  overlay FIRST SECOND
+  overlay-pairs DIR COUNT SEED
+  compare-overlay DIR";
 
 fn main() -> ExitCode {
     let arguments: Vec<String> = std::env::args().skip(1).collect();
@@ -96,6 +101,15 @@ fn run(words: &[&str]) -> Result<(), String> {
             let file = pbm::file(&strokes, number(columns)?, number(rows)?);
             put(&file.map_err(|(refusal, place)| format!("refusal {refusal}, place {place}"))?)
         }
+        ["overlay", first, second] => {
+            let answer = overlay::answer(&file(first)?, &file(second)?);
+            put(overlay::text(&answer).as_bytes())
+        }
+        ["overlay-pairs", folder, count, seed] => {
+            let pairs = overlay_pairs::pairs(number(count)?, number(seed)?);
+            put(overlay_pairs::write(folder, &pairs)?.as_bytes())
+        }
+        ["compare-overlay", folder] => say(overlay::compare(folder)),
         _ => Err(USAGE.to_string()),
     }
 }
