@@ -1,6 +1,6 @@
 -- What each refusal is called: RefusedByName of specs/Theorems.antt, case by case.
 use mathlib.Core.Path.{refl}
-use Rattle.lines.specs.Lines.{ascii}
+use Rattle.text.specs.Ascii.{ascii}
 use Rattle.compare.specs.declared.Refusal.the-variants.{BadHeader1, BadHeader2, UnequalSizes, ShortData1, ShortData2, BytesAfter1, BytesAfter2}
 use Rattle.compare.specs.Theorems.{RefusedByName}
 

@@ -19,7 +19,7 @@ use Rattle.pbm.specs.declared.read.Header.the-variants.{Sound, Unsound}
 use Rattle.pbm.specs.Reading.{headerIn}
 use Rattle.pbm.specs.Theorems.{Headed}
 use Rattle.pbm.proofs.Headed.{header-sound, header-short}
-use Rattle.lines.specs.Lines.{ascii}
+use Rattle.text.specs.Ascii.{ascii}
 use Rattle.lines.specs.Put.{textRoom}
 use Rattle.compare.specs.declared.Refusal.{Refusal}
 use Rattle.compare.specs.declared.Refusal.the-variants.{BadHeader1, BadHeader2, UnequalSizes, ShortData1, ShortData2, BytesAfter1, BytesAfter2}

@@ -12,7 +12,8 @@ use Rattle.text.specs.Put.{Put, started}
 use Rattle.text.specs.Decimal.{decimal}
 use Rattle.text.proofs.Pieces.{put-started}
 use Rattle.difference.specs.Apart.{differing}
-use Rattle.lines.specs.Lines.{ascii, rowText, linesText}
+use Rattle.text.specs.Ascii.{ascii}
+use Rattle.lines.specs.Lines.{rowText, linesText}
 use Rattle.lines.specs.Rows.{rowLines, pixelLines}
 use Rattle.lines.specs.Put.{isReady, rowPut}
 use Rattle.lines.proofs.Ready.{ready-facts, row-ready, row-not}

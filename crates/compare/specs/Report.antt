@@ -4,7 +4,8 @@ use mathlib.Core.List.{List, [], _++_}
 use lib.ListN.{length, take, drop}
 use Rattle.bits.specs.Bits.{packedLength}
 use Rattle.pbm.specs.Reading.{headerIn}
-use Rattle.lines.specs.Lines.{Line, ascii, linesText}
+use Rattle.text.specs.Ascii.{ascii}
+use Rattle.lines.specs.Lines.{Line, linesText}
 use Rattle.lines.specs.Rows.{rowLines}
 use Rattle.compare.specs.declared.Refusal.{Refusal}
 use Rattle.compare.specs.declared.Sizes.{Sizes}

@@ -6,7 +6,7 @@ use lib.ListN.{length, take, drop}
 use Rattle.bits.specs.Bits.{packedLength}
 use Rattle.text.specs.Put.{putAt}
 use Rattle.pbm.specs.Reading.{headerIn}
-use Rattle.lines.specs.Lines.{ascii}
+use Rattle.text.specs.Ascii.{ascii}
 use Rattle.compare.specs.declared.Refusal.{Refusal}
 use Rattle.compare.specs.declared.Sizes.{Sizes}
 use Rattle.compare.specs.declared.Sizes.the-variants as sizes·

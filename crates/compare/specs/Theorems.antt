@@ -13,7 +13,8 @@ use Rattle.bits.specs.Bits.{packedLength, packed}
 use Rattle.pbm.specs.Pbm.{header, file}
 use Rattle.pbm.specs.Theorems.{Headed}
 use Rattle.difference.specs.RowOnes.{rowOnes}
-use Rattle.lines.specs.Lines.{Line, row, pixel, ascii}
+use Rattle.text.specs.Ascii.{ascii}
+use Rattle.lines.specs.Lines.{Line, row, pixel}
 use Rattle.lines.specs.Put.{textRoom}
 use Rattle.lines.specs.Theorems.{PixelOf, Ordered}
 use Rattle.compare.specs.declared.Refusal.{Refusal}

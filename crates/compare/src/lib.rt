@@ -9,7 +9,7 @@ ghost use mathlib.Core.Path.{_≡_};
 ghost use mathlib.Core.Bool.{_&&_};
 ghost use lib.Dec.{eqb};
 ghost use Rattle.text.specs.Put.{putAt};
-ghost use Rattle.lines.specs.Lines.{ascii};
+ghost use Rattle.text.specs.Ascii.{ascii};
 ghost use Rattle.compare.specs.Refusals.{name, sizesOf, lastByte, endsOf};
 ghost use Rattle.compare.specs.Step.{stepped};
 

@@ -10,7 +10,8 @@ use Rattle.text.specs.Decimal.{decimal}
 use Rattle.text.specs.Put.{Put, putAt}
 use Rattle.text.proofs.Decimal.{few-digits}
 use Rattle.text.proofs.Pieces.{put-next}
-use Rattle.lines.specs.Lines.{ascii, rowText, filmText, pixelText}
+use Rattle.text.specs.Ascii.{ascii}
+use Rattle.lines.specs.Lines.{rowText, filmText, pixelText}
 use Rattle.lines.proofs.Texts.{film-text, film-long}
 
 -- a piece behind others, where all of them have room

@@ -11,7 +11,8 @@ use Rattle.bits.specs.Bits.{bitAt}
 use Rattle.text.specs.Decimal.{lastDigits, decimal}
 use Rattle.text.proofs.Decimal.{few-digits}
 use Rattle.difference.specs.Apart.{apart}
-use Rattle.lines.specs.Lines.{Line, pixel, ascii, rowText, filmText, pixelText, linesText}
+use Rattle.text.specs.Ascii.{ascii}
+use Rattle.lines.specs.Lines.{Line, pixel, rowText, filmText, pixelText, linesText}
 use Rattle.lines.specs.Rows.{pixelLines}
 use Rattle.lines.specs.Held.{columnText, columnsText}
 

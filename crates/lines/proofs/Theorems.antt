@@ -12,7 +12,8 @@ use Rattle.text.specs.Decimal.{lastDigits, decimal}
 use Rattle.text.proofs.Decimal.{few-digits}
 use Rattle.difference.specs.Apart.{apart, differing}
 use Rattle.difference.proofs.Theorems.{same-pixels, over-itself, few-differ}
-use Rattle.lines.specs.Lines.{Line, row, pixel, ascii, rowText, linesText}
+use Rattle.text.specs.Ascii.{ascii}
+use Rattle.lines.specs.Lines.{Line, row, pixel, rowText, linesText}
 use Rattle.lines.specs.Rows.{pixelLines}
 use Rattle.lines.specs.Theorems.{OnlyIn, RowPixels, RowNumber, lineRow, linePlace, RowOrdered, RowSame, RowOverItself, RowFits, LinesSpelt}
 use Rattle.lines.proofs.Texts.{row-few, columns-few, pixels-text}

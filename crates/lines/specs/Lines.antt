@@ -1,9 +1,7 @@
 -- The lines of a report, and their text.
 use Prim.Native.Nat.{ℕ}
-use Prim.Native.Char.{code}
-use Prim.Native.String.{String}
-use Prim.Native.String as string·
 use mathlib.Core.List.{List, [], _∷_, _++_}
+use Rattle.text.specs.Ascii.{ascii}
 use Rattle.text.specs.Decimal.{decimal}
 
 -- "reports each differing pixel and no other, as column, row (0 lowest) and which film has it black": 1 is the first film, 2 the second.
@@ -11,11 +9,6 @@ use Rattle.text.specs.Decimal.{decimal}
 pub data Line : Type 0 where
   row : (row number : ℕ) → Line
   pixel : (column row film : ℕ) → Line
-
--- the ASCII codes of a text
-unfoldable pub ascii : String → List ℕ
-ascii string·.[] = []
-ascii (string·._∷_ c s) = code c ∷ ascii s
 
 -- "row ROW NUMBER"
 abbrev pub rowText : ℕ → ℕ → List ℕ

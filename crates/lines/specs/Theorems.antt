@@ -8,7 +8,8 @@ use lib.ListN.{length}
 use Rattle.integers.specs.Count.{_∈_, Number}
 use Rattle.bits.specs.Bits.{bitAt}
 use Rattle.difference.specs.Apart.{differing}
-use Rattle.lines.specs.Lines.{Line, row, pixel, ascii, linesText}
+use Rattle.text.specs.Ascii.{ascii}
+use Rattle.lines.specs.Lines.{Line, row, pixel, linesText}
 use Rattle.lines.specs.Rows.{rowLines}
 use Rattle.lines.specs.Put.{textRoom}
 

@@ -2,7 +2,7 @@
 use mathlib.Core.Path.{sym, ap, _∙_}
 use denote.Ref.{now}
 use Rattle.text.specs.Put.{putAt}
-use Rattle.lines.specs.Lines.{ascii}
+use Rattle.text.specs.Ascii.{ascii}
 use Rattle.compare.specs.declared.Refusal.{Refusal}
 use Rattle.compare.specs.Refusals.{name}
 use borrow.Author.Needs.{needs}
