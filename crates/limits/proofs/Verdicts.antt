@@ -5,7 +5,7 @@ use Prim.Native.Nat.{ℕ, _≤_}
 use native.Mathlib.Omega.{arith}
 use Rattle.limits.specs.declared.Verdict.{Verdict}
 use Rattle.limits.specs.declared.Verdict.the-variants.{Passed, Refused}
-use Rattle.limits.specs.Refusal.{Refusal, setting, path, coordinate, raster, row, aperture, room, inUse, number, unless, _then_}
+use Rattle.limits.specs.Refusal.{Refusal, setting, path, coordinate, raster, row, aperture, room, inUse, command, number, unless, unlessAt, _then_}
 
 -- ---- a test
 pub passed : {t : Bool} (r : Refusal) → t ≡ true → Passed ≡ unless t r
@@ -55,10 +55,15 @@ number-not-zero row = omega arith
 number-not-zero aperture = omega arith
 number-not-zero room = omega arith
 number-not-zero inUse = omega arith
+number-not-zero command = omega arith
 
 pub unless-not-zero : (b : Bool) (r : Refusal) → NotZero (unless b r)
 unless-not-zero true r = tt
 unless-not-zero false r = number-not-zero r
+
+pub unless-at-not-zero : (place : ℕ) (b : Bool) (r : Refusal) → NotZero (unlessAt place b r)
+unless-at-not-zero place true r = tt
+unless-at-not-zero place false r = number-not-zero r
 
 pub then-not-zero : (v w : Verdict) → NotZero v → NotZero w → NotZero (v then w)
 then-not-zero Passed w h k = k
