@@ -1,0 +1,2 @@
+-- Room: what the code rests on.
+mod Room
