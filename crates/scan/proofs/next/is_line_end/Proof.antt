@@ -1,0 +1,13 @@
+-- The two bytes, one test each.
+use borrow.Author.Tests.{eq-eqb, ne-eqb}
+use Rattle.scan.proofs.next.is_line_end.Statement.{statement}
+use Rattle.scan.proofs.next.is_line_end.Tie as tie
+
+returns : tie.Need-returns
+returns c = simp (eq-eqb _ _ (c .if1 .taken))
+
+returns-2 : tie.Need-returns-2
+returns-2 c = simp (ne-eqb _ _ (c .if1 .left))
+
+pub is-line-end-spec : {M : Type 1} → statement M
+is-line-end-spec = tie.close (tie.spec returns returns-2)
