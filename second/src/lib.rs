@@ -1,11 +1,14 @@
-//! The second program as a library: a literal, slow reading of document 01, to
-//! compare the drawer with. `main.rs` has its commands.
+//! The second program as a library: a literal, slow reading of document 01, and of
+//! W1 and W4 in document 02, to compare the drawer with. `main.rs` has its commands.
 
 pub mod abi;
 pub mod boundary;
 pub mod calls;
 pub mod extent;
 pub mod fast;
+pub mod gerber;
+pub mod gerber_cases;
+pub mod gerber_compare;
 pub mod kinds;
 pub mod large;
 pub mod overlay;

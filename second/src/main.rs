@@ -1,10 +1,13 @@
-//! The second program: a literal, slow reading of document 01 and of W1 in document
-//! 02, to compare the proved programs with. See README.md for the commands and their
+//! The second program: a literal, slow reading of document 01 and of W1 and W4 in
+//! document 02, to compare the proved programs with. See README.md for the commands and their
 //! byte streams.
 
 use second::setting::Setting;
 use second::table_stream::Source;
-use second::{extent, overlay, overlay_pairs, paper, paper_rows, pbm, pens, row, segments, stream};
+use second::{
+    extent, gerber, gerber_cases, gerber_compare, overlay, overlay_pairs, paper, paper_rows, pbm,
+    pens, row, segments, stream,
+};
 use second::{table_calls, tries};
 use std::io::{Read, Write};
 use std::process::ExitCode;
@@ -25,7 +28,12 @@ const USAGE: &str = "usage: second COMMAND
   pbm COLUMNS ROWS W P Q X Y [X Y ...] [/ W P Q X Y ...]
   overlay FIRST SECOND
   overlay-pairs DIR COUNT SEED
-  compare-overlay DIR";
+  compare-overlay DIR
+  gerber N ROOM APERTURES
+  gerber-cases COUNT SEED
+  gerber-case NUMBER SEED DIR
+  compare-gerber PROGRAM COUNT SEED [KIND]
+  gerber-long BYTES";
 
 fn main() -> ExitCode {
     let arguments: Vec<String> = std::env::args().skip(1).collect();
@@ -110,8 +118,37 @@ fn run(words: &[&str]) -> Result<(), String> {
             put(overlay_pairs::write(folder, &pairs)?.as_bytes())
         }
         ["compare-overlay", folder] => say(overlay::compare(folder)),
+        ["gerber", n, room, apertures] => {
+            let request = gerber::Request {
+                n: number(n)?,
+                room: number(room)?,
+                apertures: &numbers(apertures)?,
+                file: &input()?,
+            };
+            put(gerber::answer(request).to_string().as_bytes())
+        }
+        ["gerber-cases", count, seed] => {
+            put(gerber_cases::kinds(number(count)?, number(seed)?).as_bytes())
+        }
+        ["gerber-case", case, seed, folder] => {
+            gerber_compare::write(number(case)?, number(seed)?, folder)
+        }
+        ["compare-gerber", program, count, seed, kind @ ..] if kind.len() < 2 => {
+            let kind = kind.first().copied();
+            let (count, seed) = (number(count)?, number(seed)?);
+            say(gerber_compare::compare(program, count, seed, kind))
+        }
+        ["gerber-long", bytes] => put(&gerber_cases::long(number(bytes)?)),
         _ => Err(USAGE.to_string()),
     }
+}
+
+/// Numbers with commas between, or `-` for none.
+fn numbers(word: &str) -> Result<Vec<u64>, String> {
+    if word == "-" {
+        return Ok(Vec::new());
+    }
+    word.split(',').map(number).collect()
 }
 
 /// A setting and a path in words: W P Q X Y ...
