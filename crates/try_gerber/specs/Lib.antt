@@ -1,0 +1,2 @@
+-- What the words of the command line say, and how much is lent.
+pub mod Words
