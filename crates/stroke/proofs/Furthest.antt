@@ -8,11 +8,11 @@ use Rattle.integers.specs.Orders.{_≼_, _≺_}
 use Rattle.integers.specs.Count.{_∈_}
 use Rattle.integers.proofs.Ring.{ring, reify, _⊢_}
 use Rattle.integers.proofs.Order.{mul-nn, sub-nn, sub-pos, mul-mono, le-antisymm}
+use Rattle.integers.proofs.Signs.{neg-neg, neg-below}
 use Rattle.plane.specs.Point.{Pt}
 use Rattle.plane.specs.Polygon.{dot, PenLaws}
 use Rattle.stroke.specs.Sides.{furthest}
 use Rattle.stroke.specs.Theorems.{OffsetGreatest}
-use Rattle.stroke.proofs.Signs.{neg-neg, neg-below}
 use Rattle.stroke.proofs.Corners.{furthest-bound, corner-opposite, furthest-corner}
 
 -- a corner's value in t times a direction, and in the opposite one

@@ -9,6 +9,7 @@ use lib.IntN.{ℤ, pos, negsuc, negℤ}
 use lib.Signed.{ltZ}
 use Rattle.integers.specs.Orders.{_≺_}
 use Rattle.integers.proofs.Ring.{ring, reify}
+use Rattle.integers.proofs.Signs.{neg-below, neg-above}
 use Rattle.integers.proofs.Tests.{lt-iff}
 use Rattle.stroke.specs.Black.{kept, KeptLaws}
 
@@ -39,12 +40,6 @@ pub kept-laws : KeptLaws
 kept-laws = record { one = one; rightward = kept-rightward; down = kept-down }
 
 -- ---- from the laws
-pub neg-pos : (a : ℤ) → a ≺ pos 0 → pos 0 ≺ negℤ a
-neg-pos = ring 1 _ (λ ρ. simp (reify, ρ) (omega arith))
-
-neg-neg : (a : ℤ) → pos 0 ≺ a → negℤ a ≺ pos 0
-neg-neg = ring 1 _ (λ ρ. simp (reify, ρ) (omega arith))
-
 not-zero : (a : ℤ) → a ≺ pos 0 → ¬ (a ≡ pos 0)
 not-zero = ring 1 _ (λ ρ. simp (reify, ρ) (omega arith))
 
@@ -57,7 +52,7 @@ dropped true e = sym e
 dropped false e = refl
 
 pub dropped-leftward : (a b : ℤ) → a ≺ pos 0 → kept a b ≡ false
-dropped-leftward a b h = dropped (kept a b) (sym (kept-laws .one a b (λ z. not-zero a h (z .0))) ∙ kept-laws .rightward (negℤ a) (negℤ b) (neg-pos a h))
+dropped-leftward a b h = dropped (kept a b) (sym (kept-laws .one a b (λ z. not-zero a h (z .0))) ∙ kept-laws .rightward (negℤ a) (negℤ b) (neg-above a h))
 
 pub dropped-up : (b : ℤ) → pos 0 ≺ b → kept (pos 0) b ≡ false
-dropped-up b h = dropped (kept (pos 0) b) (sym (kept-laws .one (pos 0) b (λ z. not-zero′ b h (z .1))) ∙ kept-laws .down (negℤ b) (neg-neg b h))
+dropped-up b h = dropped (kept (pos 0) b) (sym (kept-laws .one (pos 0) b (λ z. not-zero′ b h (z .1))) ∙ kept-laws .down (negℤ b) (neg-below b h))

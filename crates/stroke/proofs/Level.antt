@@ -13,13 +13,13 @@ use Rattle.integers.specs.Compare.{minZ, maxZ}
 use Rattle.integers.specs.Count.{_∈_}
 use Rattle.integers.proofs.Ring.{ring, reify, _⊢_}
 use Rattle.integers.proofs.Order.{mul-nn, sub-nn, sub-pos, le-or-lt, le-antisymm, lt-le}
+use Rattle.integers.proofs.Signs.{neg-below, neg-above, times-le, times-lt}
 use Rattle.integers.proofs.Tests.{max-l, max-r}
 use Rattle.plane.specs.Point.{Pt, same}
 use Rattle.plane.specs.Polygon.{Side, dot, edges, PenLaws}
 use Rattle.stroke.specs.Sweep.{Seg}
 use Rattle.stroke.specs.Sides.{moved, furthest, touching}
 use Rattle.stroke.specs.Black.{kept, Black}
-use Rattle.stroke.proofs.Signs.{neg-below, neg-above, times-le, times-lt}
 use Rattle.stroke.proofs.Kept.{kept-down, dropped-up}
 use Rattle.stroke.proofs.Corners.{corner-opposite}
 use Rattle.stroke.proofs.Sides.{sides-each, each-side, same-or-differ}

@@ -8,13 +8,12 @@
 --   Apart, Runs                        lists of runs that are apart, and theorem 4: the computed runs are the longest, which are unique
 --   Totals                             what the runs of several rows hold together, and in how many rows they cover a column
 --   Window                             how many pixels the strip along a direction has, and the band along a level path
---   Signs, Furthest, NearEdge, Rising  the black pixels of a middle row are those of the strip
+--   Furthest, NearEdge, Rising         the black pixels of a middle row are those of the strip
 --   Level                              the black pixels of a middle column of a level path are those of the band
 --   WeightTheorems, Answers            theorems 4, 5 and 6; and line weight over the runs of row answers
 --   Theorems                           all claims of specs/Theorems.antt, each under its name there
 pub mod Segments
 pub mod Lists
-pub mod Signs
 pub mod Kept
 pub mod Corners
 pub mod Support

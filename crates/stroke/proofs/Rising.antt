@@ -15,6 +15,7 @@ use Rattle.integers.specs.Compare.{maxZ}
 use Rattle.integers.specs.Count.{_∈_}
 use Rattle.integers.proofs.Ring.{ring, reify, _⊢_, var}
 use Rattle.integers.proofs.Order.{mul-nn, sub-nn, sub-pos, le-or-lt, le-antisymm, lt-le}
+use Rattle.integers.proofs.Signs.{neg-neg, neg-below, times-le, times-lt}
 use Rattle.integers.proofs.Tests.{max-l, max-r, clash}
 use Rattle.plane.specs.Point.{Pt, same}
 use Rattle.plane.specs.Polygon.{Side, dot, edge, edges, PenLaws}
@@ -22,7 +23,6 @@ use Rattle.stroke.specs.Sweep.{Seg}
 use Rattle.stroke.specs.Sides.{moved, furthest, touching}
 use Rattle.stroke.specs.Black.{Black}
 use Rattle.stroke.specs.Weight.{Direction, offset}
-use Rattle.stroke.proofs.Signs.{neg-neg, neg-below, times-le, times-lt}
 use Rattle.stroke.proofs.Kept.{kept-rightward, dropped-leftward}
 use Rattle.stroke.proofs.Corners.{edge-ends, ends-level, furthest-bound, corner-opposite, furthest-corner}
 use Rattle.stroke.proofs.Support.{one-lt}

@@ -6,13 +6,13 @@ use lib.Dec.{leb→le}
 use lib.IntN.{ℤ, pos, _+ℤ_, _-ℤ_, _*ℤ_}
 use mir.Syntax.{w64}
 use Rattle.integers.specs.Orders.{_≺_}
+use Rattle.integers.proofs.Signs.{neg-above}
 use Rattle.integers.proofs.Tests.{true-and, false-and}
 use Rattle.integers.proofs.Machine.{Is, known, num, mul, mul-fits, sub, sub-fits, weaken, bound, at-return, lt-yes, lt-no}
 use Rattle.plane.specs.Polygon.{Side}
 use Rattle.extent.specs.declared.limit.Limits.{Limits}
 use Rattle.stroke.specs.Extent.{upper, lower, narrow}
 use Rattle.extent.specs.Held.{lastTo, atMost, atLeast, left, flatLeaves, Steady}
-use Rattle.stroke.proofs.Kept.{neg-pos}
 use Rattle.extent.proofs.Bits.{bits, _⊖_, _⊗_, opposite, row-number, row-place, ap₃}
 use Rattle.extent.proofs.Narrow.{narrow-right, narrow-left, narrow-flat}
 use borrow.Author.Needs.{needs}
@@ -96,7 +96,7 @@ greater-requires c κs =
     let s = c .before .before .before .before in
     let h = lt-yes (a s) zero (c .if2 .taken) in
     let n = opposite (a s) tt in
-    (s .pre .0 .least, (at-return (λ z. pos 0 ≺ z) n (neg-pos (s .args .a) h), record { num-small = bound (opposite (room s) tt); by-small = bound n }))
+    (s .pre .0 .least, (at-return (λ z. pos 0 ≺ z) n (neg-above (s .args .a) h), record { num-small = bound (opposite (room s) tt); by-small = bound n }))
 
 returns-2 : tie.Need-returns-2
 returns-2 c =
