@@ -10,7 +10,7 @@ use Rattle.quarter.specs.Cutting.{amount, retained, corners, quarter}
 use Rattle.pen.specs.Polygon.{upAndBack, onceEach, pen}
 use Rattle.plane.specs.Polygon.{chain, edges}
 use Rattle.stroke.specs.Sides.{furthest, sides}
-use Rattle.stroke.specs.Black.{kept}
+use Rattle.ties.specs.Kept.{kept}
 use Rattle.stroke.specs.Extent.{narrowed, extent}
 use Rattle.limits.specs.Sizes.{inRange}
 use Rattle.stroke.specs.Runs.{blackAt}

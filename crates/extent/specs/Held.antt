@@ -13,8 +13,8 @@ use Rattle.limits.specs.Sizes.{rasterMax}
 use Rattle.extent.specs.declared.limit.Fraction.{Fraction}
 use Rattle.extent.specs.declared.limit.Limits.{Limits}
 use Rattle.extent.specs.declared.side.Ends.{Ends}
+use Rattle.ties.specs.Kept.{kept}
 use Rattle.stroke.specs.Sweep.{Seg}
-use Rattle.stroke.specs.Black.{kept}
 use Rattle.stroke.specs.Extent.{Limit, free, at, Left}
 
 -- the last column up to the fraction num / by of sixteenths, and the first column past it; no limit where by is not positive

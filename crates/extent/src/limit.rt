@@ -6,7 +6,6 @@ ghost use Prim.Native.Nat.{_<_};
 ghost use lib.IntN.{pos, _+ℤ_};
 ghost use Rattle.limits.specs.Sizes.{rasterMax};
 ghost use Rattle.integers.specs.Orders.{_≺_};
-ghost use Rattle.stroke.specs.Black.{kept};
 ghost use Rattle.stroke.specs.Extent.{upper, lower, narrow, spanOf};
 ghost use Rattle.extent.specs.Answer.{answered};
 ghost use Rattle.extent.specs.Held.{lastTo, atMost, atLeast, left, flatLeaves, start, Fair, Steady, Bounded};
@@ -65,19 +64,11 @@ fn greater(f: Fraction, num: i64, by: i64) -> Fraction
     f
 }
 
-// Whether a flat side with the normal (0, b) is kept: one that points straight down is. The rule
-// for flat sides stands here and nowhere else in the code.
-fn keeps_flat(b: i64) -> bool
-    ensures { λ r. ⌜ r ≡ kept (pos 0) b ⌝ }
-{
-    b < 0
-}
-
 // Whether a flat side leaves the row: `at` is the row's place along the normal, c the side's.
 fn leaves(b: i64, c: i64, at: i64) -> bool
     ensures { λ r. ⌜ r ≡ flatLeaves b c at ⌝ }
 {
-    if keeps_flat(b) { at <= c } else { at < c }
+    if ties::keeps_flat(b) { at <= c } else { at < c }
 }
 
 // One side more, a x + b y <= c, in the given row. Its room is what a * 16i may reach at most.

@@ -15,7 +15,7 @@ use Rattle.pen.specs.Polygon.{upward, upAndBack, onceEach, pen}
 use Rattle.plane.specs.Polygon.{chain, edges}
 use Rattle.stroke.specs.Weight.{offset}
 use Rattle.stroke.specs.Sides.{furthest, sides}
-use Rattle.stroke.specs.Black.{kept}
+use Rattle.ties.specs.Kept.{kept}
 use Rattle.stroke.specs.Extent.{narrowed, extent}
 use Rattle.limits.specs.Sizes.{inRange}
 use Rattle.checks.specs.Checks.{coordinateFrom}

@@ -13,9 +13,10 @@ use Rattle.integers.proofs.Order.{le-or-lt, le-antisymm, lt-le}
 use Rattle.integers.proofs.Tests.{le-iff, lt-iff, clash}
 use Rattle.plane.specs.Point.{Pt}
 use Rattle.plane.specs.Polygon.{Side, dot, PenLaws}
+use Rattle.ties.specs.Kept.{kept}
 use Rattle.stroke.specs.Sweep.{Seg}
 use Rattle.stroke.specs.Sides.{sides}
-use Rattle.stroke.specs.Black.{kept, Black}
+use Rattle.stroke.specs.Black.{Black}
 use Rattle.stroke.specs.Extent.{within, blackTest}
 use Rattle.stroke.proofs.Lists.{all-iff}
 use Rattle.stroke.proofs.Sides.{Meets}

@@ -1,4 +1,4 @@
--- The corners of a pen are a cycle: each is the end of one edge and the start of one, and every edge joins two of them. And the furthest corner in a direction:
+-- The corners of a pen are a cycle: each is the end of one edge and the start of one, and every edge joins two of them, and has a normal. And the furthest corner in a direction:
 -- `furthest` bounds every corner and is met at one; with each corner the opposite one is there.
 use mathlib.Core.Path.{_≡_, refl, sym, ap, _∙_, subst}
 use mathlib.Core.Logic.{_⊎_, inl, inr}
@@ -65,6 +65,20 @@ edge-ends (P ∷ l) m = let r = joined P P l m in (r .0, r .1, r .2, once (r .3)
 -- both ends of an edge lie on its line
 pub ends-level : (px py zx zy : ℤ) → (zy -ℤ py) *ℤ zx +ℤ (px -ℤ zx) *ℤ zy ≡ (zy -ℤ py) *ℤ px +ℤ (px -ℤ zx) *ℤ py
 ends-level = ring 4 _ (simp reify (omega arith))
+
+-- ---- an edge of a pen has a normal
+abbrev pub Normal : Side → Type 0
+Normal e = ¬ ((e .a ≡ pos 0) × (e .b ≡ pos 0))
+
+through-middle : (a b x y : ℤ) → a ≡ pos 0 → b ≡ pos 0 → ¬ (pos 1 ≼ a *ℤ x +ℤ b *ℤ y)
+through-middle = ring 4 _ (λ ρ p q. rw (p, q) (simp (reify, ρ) (omega arith)))
+
+-- since without one its line would go through the middle
+pub edge-normal : (cs : List Pt) (Dx Dy : ℤ) → PenLaws cs Dx Dy → (e : Side) → e ∈ edges cs → Normal e
+edge-normal cs Dx Dy pen e m z =
+    let r = edge-ends cs m in
+    let p = r .0 in
+    subst (λ (e : Side). (e .a ≡ pos 0) × (e .b ≡ pos 0) → ¬ (pos 1 ≼ e .c)) (sym (r .4)) (λ z. through-middle _ _ (p .x) (p .y) (z .0) (z .1)) z (pen .thick e m)
 
 -- ---- the furthest corner
 pub furthest-bound : (a b : ℤ) (l : List Pt) {z : Pt} → z ∈ l → dot a b z ≼ furthest a b l

@@ -1,6 +1,6 @@
 -- What is proved of a stroke, bottom up.
 --   Segments                           the points of a path and its segments, by their place
---   Lists, Kept                        all and some elements of a list; the rule of kept sides
+--   Lists                              all and some elements of a list
 --   Corners, Support, BothWays         a pen: its corners are a cycle, it reaches no further than they do, and it has edges that rise and edges that fall
 --   Sides, Inside, Greatest, Sweep     the sides of a segment, and theorem 1: in the sweep exactly when within every side
 --   Black                              theorem 2: black exactly when every side allows it, which the test decides
@@ -14,7 +14,6 @@
 --   Theorems                           all claims of specs/Theorems.antt, each under its name there
 pub mod Segments
 pub mod Lists
-pub mod Kept
 pub mod Corners
 pub mod Support
 pub mod BothWays

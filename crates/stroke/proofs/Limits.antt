@@ -16,10 +16,11 @@ use Rattle.integers.proofs.Order.{le-antisymm, le-trans}
 use Rattle.integers.proofs.Tests.{ltz, and-both, max-l, max-r, max-le, min-l, min-r, le-min}
 use Rattle.integers.proofs.Floor.{le-floorDiv}
 use Rattle.plane.specs.Polygon.{Side}
+use Rattle.ties.proofs.Kept.{kept-laws}
+use Rattle.ties.proofs.Laws.{dropped-leftward}
 use Rattle.stroke.specs.Sweep.{centre}
 use Rattle.stroke.specs.Extent.{within, Limit, free, at, Left, room, upper, lower, narrow, narrowed}
 use Rattle.stroke.proofs.Lists.{cons-all}
-use Rattle.stroke.proofs.Kept.{kept-rightward, dropped-leftward}
 use Rattle.stroke.proofs.Black.{Allows, allows-kept, allows-dropped, within-iff}
 
 -- ---- a column within a limit
@@ -69,7 +70,7 @@ module _ (i j : ℤ) where
   right-iff e h =
       let f = le-floorDiv (room j e) (pos 16 *ℤ e .a) i (sixteen-pos (e .a) h) in
       let u = up (e .a) (e .b) (e .c) i j in
-      let k = allows-kept (kept-rightward (e .a) (e .b) h) in
+      let k = allows-kept (kept-laws .rightward (e .a) (e .b) h) in
       ((λ l. k .1 (u .0 (f .0 l))), λ m. f .1 (u .1 (k .0 m)))
 
   left-iff : (e : Side) → e .a ≺ pos 0 → (floorDiv (negℤ (room j e)) (pos 16 *ℤ negℤ (e .a)) +ℤ pos 1 ≼ i) ↔ Allows (centre i j) e

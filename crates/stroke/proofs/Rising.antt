@@ -19,11 +19,12 @@ use Rattle.integers.proofs.Signs.{neg-neg, neg-below, times-le, times-lt}
 use Rattle.integers.proofs.Tests.{max-l, max-r, clash}
 use Rattle.plane.specs.Point.{Pt, same}
 use Rattle.plane.specs.Polygon.{Side, dot, edge, edges, PenLaws}
+use Rattle.ties.proofs.Kept.{kept-laws}
+use Rattle.ties.proofs.Laws.{dropped-leftward}
 use Rattle.stroke.specs.Sweep.{Seg}
 use Rattle.stroke.specs.Sides.{moved, furthest, touching}
 use Rattle.stroke.specs.Black.{Black}
 use Rattle.stroke.specs.Weight.{Direction, offset}
-use Rattle.stroke.proofs.Kept.{kept-rightward, dropped-leftward}
 use Rattle.stroke.proofs.Corners.{edge-ends, ends-level, furthest-bound, corner-opposite, furthest-corner}
 use Rattle.stroke.proofs.Support.{one-lt}
 use Rattle.stroke.proofs.Sides.{sides-each, each-side, same-or-differ}
@@ -132,7 +133,7 @@ module _ (cs : List Pt) (Dx Dy : ℤ) (pen : PenLaws cs Dx Dy) (g : Seg) (u : �
     right-iff =
         let W = g .to .y -ℤ g .from .y in
         let K = g .to .x -ℤ g .from .x in
-        Iff·trans (allows-kept (kept-rightward W (negℤ K) rises))
+        Iff·trans (allows-kept (kept-laws .rightward W (negℤ K) rises))
         (Iff·trans (right-side W K (furthest W (negℤ K) cs) (X .x) (X .y) (g .from .x) (g .from .y) t u (pos v) (offset cs u v) (dir .upward) (dir .across) right-far)
         (times-le t M (pos 8 *ℤ offset cs u v) t-pos))
 
@@ -215,7 +216,7 @@ module _ (cs : List Pt) (Dx Dy : ℤ) (pen : PenLaws cs Dx Dy) (g : Seg) (u : �
             with = λ _. out-of (e .a) (e .b) (e .c) (X .x) (X .y) (g .from .x) (g .from .y) m (near-meets (near e me));
             without = λ k. elim (le-or-lt (moved g e .c) (dot (e .a) (e .b) X)) [
               | inr l ↦ l
-              | inl l ↦ absurd (elim (le-or-lt (e .a) (pos 0)) [ inr h ↦ clash (kept-rightward (e .a) (e .b) h) k | inl h ↦ misses p q mp mq me h l ])
+              | inl l ↦ absurd (elim (le-or-lt (e .a) (pos 0)) [ inr h ↦ clash (kept-laws .rightward (e .a) (e .b) h) k | inl h ↦ misses p q mp mq me h l ])
             ];
           }
 

@@ -1,7 +1,6 @@
 -- The claims of specs/Theorems.antt, each under its name there.
-use Rattle.stroke.specs.Theorems.{PointsAre, DotIs, SegmentsAre, KeptHas, SweepSides, BlackTest, ExtentBlack, RunsLongest, LongestUnique, OffsetGreatest, RowsHold, ColumnHolds}
+use Rattle.stroke.specs.Theorems.{PointsAre, DotIs, SegmentsAre, SweepSides, BlackTest, ExtentBlack, RunsLongest, LongestUnique, OffsetGreatest, RowsHold, ColumnHolds}
 use Rattle.stroke.proofs.Segments as paths
-use Rattle.stroke.proofs.Kept.{kept-laws}
 use Rattle.stroke.proofs.Sweep.{sweep-iff}
 use Rattle.stroke.proofs.Black.{test-iff}
 use Rattle.stroke.proofs.Columns.{extent-iff}
@@ -16,9 +15,6 @@ dot-is = paths.dot-is
 
 pub segments-are : SegmentsAre
 segments-are = paths.segments-are
-
-pub kept-has : KeptHas
-kept-has = kept-laws
 
 pub sweep-sides : SweepSides
 sweep-sides = sweep-iff

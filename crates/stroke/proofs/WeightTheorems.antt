@@ -8,6 +8,7 @@ use lib.IntN.{ℤ, pos}
 use Rattle.integers.proofs.Tests.{clash}
 use Rattle.integers.proofs.Count.{number-iff}
 use Rattle.plane.specs.Point.{Pt}
+use Rattle.ties.specs.Kept.{kept}
 use Rattle.stroke.specs.Sweep.{Seg, centre}
 use Rattle.stroke.specs.Black.{Black, BlackPath}
 use Rattle.stroke.specs.Runs.{blackAt}
@@ -18,7 +19,7 @@ use Rattle.stroke.proofs.Apart.{longest-iff, longest-same}
 use Rattle.stroke.proofs.Runs.{runs-of}
 use Rattle.stroke.proofs.Window.{Strip, strip-number, band-number}
 use Rattle.stroke.proofs.Rising.{rising-iff}
-use Rattle.stroke.proofs.Level.{level-iff}
+use Rattle.stroke.proofs.Level.{middle, level-iff}
 
 -- ---- runs
 passed : (b : Bool) → T b ↔ (b ≡ true)
@@ -56,4 +57,4 @@ rows-hold cs Dx Dy pen g u v t dir c e j inside = number-iff _ (λ p. InRows j v
 pub column-holds : ColumnHolds
 column-holds cs Dx Dy pen g flat differs i inside =
     number-iff _ (λ j. BlackPixel cs g (record { column = i; row = j }))
-    (λ j. Iff·symm (Iff·trans (two-points cs g (centre i j)) (level-iff cs Dx (pos Dy) pen g (centre i j) flat differs (inside .0) (inside .1)))) (band-number (g .from) Dy i)
+    (λ j. Iff·symm (Iff·trans (two-points cs g (centre i j)) (level-iff cs Dx (pos Dy) pen g (centre i j) flat differs (inside .0) (inside .1)))) (band-number (middle (kept (pos 0) (pos 1)) (g .from .y)) Dy i)

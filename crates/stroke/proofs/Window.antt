@@ -99,20 +99,20 @@ strip-number u v rising co A c j =
     ((λ h. record { left = s .0 h .0; right = s .0 h .1 }), λ h. s .1 (h .left, h .right)) in
     number-iff (λ p. InRows j v (p .row) × In M c (line u v p)) _ (λ p. ((λ h. (h .0, e p .0 (h .1))), λ h. (h .0, e p .1 (h .1)))) (values-number u v rising (z .0) (z .1) (z .2) j M c)
 
--- ---- the band along a level path through A: down to its lower line, and not on its upper one
-pub record Band (D : ℤ) (A X : Pt) : Type 0 where
-  pub low : negℤ (pos 8 *ℤ D) ≼ X .y -ℤ A .y
-  pub high : X .y -ℤ A .y ≺ pos 8 *ℤ D
+-- ---- the band around the level line at height h: up to its upper line, and not on its lower one
+pub record Band (D h : ℤ) (X : Pt) : Type 0 where
+  pub low : negℤ (pos 8 *ℤ D) ≺ X .y -ℤ h
+  pub high : X .y -ℤ h ≼ pos 8 *ℤ D
 
-rows : (j ay M : ℤ) (d : ℕ) → pos 16 *ℤ M ≼ ay -ℤ pos (8 * d) -ℤ pos 1 → ay -ℤ pos (8 * d) -ℤ pos 1 ≺ pos 16 *ℤ M +ℤ pos 16 →
-    In M d j ↔ ((negℤ (pos (8 * d)) ≼ pos 16 *ℤ j -ℤ ay) × (pos 16 *ℤ j -ℤ ay ≺ pos (8 * d)))
-rows j ay M d h k = h ⊢ k ⊢ here (j ∷ ay ∷ M ∷ []) λ ρ a b c. simp (reify, ρ, a, b, c) (omega arith)
+rows : (j h M : ℤ) (d : ℕ) → pos 16 *ℤ M ≼ h -ℤ pos (8 * d) → h -ℤ pos (8 * d) ≺ pos 16 *ℤ M +ℤ pos 16 →
+    In M d j ↔ ((negℤ (pos (8 * d)) ≺ pos 16 *ℤ j -ℤ h) × (pos 16 *ℤ j -ℤ h ≼ pos (8 * d)))
+rows j h M d lo hi = lo ⊢ hi ⊢ here (j ∷ h ∷ M ∷ []) λ ρ a b c. simp (reify, ρ, a, b, c) (omega arith)
 
-pub band-number : (A : Pt) (d : ℕ) (i : ℤ) → Number (λ j. Band (pos d) A (centre i j)) d
-band-number A d i =
-    let K = A .y -ℤ pos (8 * d) -ℤ pos 1 in
+pub band-number : (h : ℤ) (d : ℕ) (i : ℤ) → Number (λ j. Band (pos d) h (centre i j)) d
+band-number h d i =
+    let K = h -ℤ pos (8 * d) in
     let M = fdiv K 16 in
-    let e : (j : ℤ) → In M d j ↔ Band (pos d) A (centre i j) = λ j.
-    let s = rows j (A .y) M d (fdiv-lo K 16 (lit< tt)) (fdiv-hi K 16 (lit< tt)) in
+    let e : (j : ℤ) → In M d j ↔ Band (pos d) h (centre i j) = λ j.
+    let s = rows j h M d (fdiv-lo K 16 (lit< tt)) (fdiv-hi K 16 (lit< tt)) in
     ((λ h. record { low = s .0 h .0; high = s .0 h .1 }), λ h. s .1 (h .low, h .high)) in
     number-iff (In M d) _ e (interval M d)

@@ -9,9 +9,9 @@ use Rattle.integers.specs.Compare.{minZ, maxZ}
 use Rattle.integers.specs.Floor.{floorDiv}
 use Rattle.plane.specs.Point.{Pt}
 use Rattle.plane.specs.Polygon.{Side, dot, reach}
+use Rattle.ties.specs.Kept.{kept}
 use Rattle.stroke.specs.Sweep.{Seg, centre}
 use Rattle.stroke.specs.Sides.{sides}
-use Rattle.stroke.specs.Black.{kept}
 
 -- X is within the side: up to its line where it is kept, and not on it where it is dropped
 abbrev pub within : Pt → Side → Bool

@@ -12,7 +12,7 @@ use Rattle.plane.specs.Point.{Pt, pt}
 use Rattle.plane.specs.Polygon.{Side, dot, PenLaws}
 use Rattle.stroke.specs.Sweep.{Seg, pathPoints, segments, centre, Sweep}
 use Rattle.stroke.specs.Sides.{sides}
-use Rattle.stroke.specs.Black.{KeptLaws, Black, BlackPath}
+use Rattle.stroke.specs.Black.{Black, BlackPath}
 use Rattle.stroke.specs.Extent.{blackTest, In, extent}
 use Rattle.stroke.specs.Runs.{Run, Longest, rowRuns}
 use Rattle.stroke.specs.Weight.{offset, WeightOfRows, WeightOfColumn}
@@ -73,7 +73,3 @@ RowsHold = EveryPen λ cs Dx Dy. WeightOfRows cs Dy
 
 abbrev pub ColumnHolds : Type 0
 ColumnHolds = (cs : List Pt) (Dx : ℤ) (Dy : ℕ) → PenLaws cs Dx (pos Dy) → WeightOfColumn cs Dx Dy
-
--- the rule of kept sides has the laws that all of these use
-abbrev pub KeptHas : Type 0
-KeptHas = KeptLaws

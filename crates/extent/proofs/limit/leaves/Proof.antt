@@ -2,8 +2,8 @@
 use mathlib.Core.Path.{sym, ap, _∙_}
 use lib.IntN.{pos}
 use mir.Syntax.{w64}
-use Rattle.stroke.specs.Black.{kept}
 use Rattle.integers.proofs.Machine.{par, leZ-at, ltZ-at}
+use Rattle.ties.specs.Kept.{kept}
 use Rattle.extent.proofs.Bits.{picked}
 use borrow.Author.Needs.{needs}
 use Rattle.extent.proofs.limit.leaves.Statement.{statement}

@@ -2,9 +2,9 @@
 use mathlib.Core.Path.{sym, _∙_}
 use lib.IntN.{pos}
 use Rattle.integers.proofs.Machine.{par, num, ltZ-at}
-use Rattle.stroke.proofs.Kept.{kept-flat}
-use Rattle.extent.proofs.limit.keeps_flat.Statement.{statement}
-use Rattle.extent.proofs.limit.keeps_flat.Tie as tie
+use Rattle.ties.proofs.Kept.{kept-flat}
+use Rattle.ties.proofs.keeps_flat.Statement.{statement}
+use Rattle.ties.proofs.keeps_flat.Tie as tie
 
 returns : tie.Need-returns
 returns c = ltZ-at (par (c .fits .b)) (num (pos 0) tt) ∙ sym (kept-flat (c .args .b))
