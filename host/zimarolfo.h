@@ -15,6 +15,11 @@
  *          The raster: each 1 to 16,384. Rows and columns count from 0.
  * row      The row that is asked for, below rows. Row 0 is the lowest.
  *
+ * Black. While the pen moves along a segment of the path, it sweeps an area. A pixel
+ * is black when its centre lies in the area of any segment. A centre on the border
+ * counts when each side through it faces right, level or slanting, or straight up: on
+ * the right border and on a flat top, but not on the left border or a flat bottom.
+ *
  * The answer is one number: bits 0 to 7 the refusal, bits 8 to 31 the place, bits
  * 32 to 63 the count. The functions below take it apart.
  *

@@ -1,6 +1,7 @@
 /*
- * The C functions through the C header, on the cases of document 01. Prints one line
- * and ends with 0 when all hold; names each one that does not and ends with 1.
+ * The C functions through the C header, on the cases of document 01, with document 02's
+ * W7. Prints one line and ends with 0 when all hold; names each one that does not and
+ * ends with 1.
  *
  * What is lent comes from malloc in just the length that is said, so that a checker
  * of memory sees a read or a write beside it.
@@ -173,9 +174,9 @@ static void level_paths(void)
 
     d = DRAWING(48, 48, 40, 160, 40);
     for (uint64_t row = 0; row < 12; row++)
-        CHECK(row == 1               ? one_run(&d, row, 3, 10)
-              : row == 2 || row == 3 ? one_run(&d, row, 2, 11)
-                                     : empty(&d, row));
+        CHECK(row == 2 || row == 3 ? one_run(&d, row, 2, 11)
+              : row == 4           ? one_run(&d, row, 3, 10)
+                                   : empty(&d, row));
     free(d.path);
 }
 

@@ -189,7 +189,7 @@ mod tests {
     /// Ways to be wrong. `Good` is none.
     const GOOD: u8 = 0;
     const KEEPS_LEFT_SIDES: u8 = 1;
-    const KEEPS_FLAT_TOPS: u8 = 2;
+    const KEEPS_FLAT_BOTTOMS: u8 = 2;
     const KEEPS_ALL_SIDES: u8 = 3;
     const WRITES_PAST_THE_END: u8 = 4;
     const WRITES_BEFORE_THE_START: u8 = 5;
@@ -205,6 +205,7 @@ mod tests {
     const ROOM_FIRST: u8 = 15;
     const ONE_PAST_A_LIMIT: u8 = 16;
     const WRITES_NOTHING: u8 = 17;
+    const DROPS_FLAT_SIDES: u8 = 18;
 
     fn columns_if_kept(request: &Request, kept: fn(Point) -> bool) -> Vec<u64> {
         let pen = pen::whole(&pen::quarter(&request.setting).unwrap());
@@ -248,9 +249,10 @@ mod tests {
             return None;
         }
         let rule: fn(Point) -> bool = match fault {
-            KEEPS_LEFT_SIDES => |n| n.0 < 0 || (n.0 == 0 && n.1 < 0),
-            KEEPS_FLAT_TOPS => |n| n.0 > 0 || (n.0 == 0 && n.1 > 0),
+            KEEPS_LEFT_SIDES => |n| n.0 < 0 || (n.0 == 0 && n.1 > 0),
+            KEEPS_FLAT_BOTTOMS => |n| n.0 > 0 || (n.0 == 0 && n.1 < 0),
             KEEPS_ALL_SIDES => |_| true,
+            DROPS_FLAT_SIDES => |n| n.0 > 0,
             KEEPS_TOUCHING_RUNS_APART => kept,
             _ => return None,
         };
@@ -371,7 +373,7 @@ mod tests {
             Err(complaint) => assert!(complaint.contains("call ")),
         };
         caught(outcome::<KEEPS_LEFT_SIDES>(2_000));
-        caught(outcome::<KEEPS_FLAT_TOPS>(2_000));
+        caught(outcome::<KEEPS_FLAT_BOTTOMS>(2_000));
         caught(outcome::<KEEPS_ALL_SIDES>(2_000));
         caught(outcome::<WRITES_PAST_THE_END>(2_000));
         caught(outcome::<WRITES_BEFORE_THE_START>(2_000));
@@ -387,5 +389,6 @@ mod tests {
         caught(outcome::<ROOM_FIRST>(2_000));
         caught(outcome::<ONE_PAST_A_LIMIT>(2_000));
         caught(outcome::<WRITES_NOTHING>(2_000));
+        caught(outcome::<DROPS_FLAT_SIDES>(2_000));
     }
 }

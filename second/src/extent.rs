@@ -193,11 +193,11 @@ mod tests {
         assert_eq!(extent(16, (32, 32), (32, 32), 2), Some((2, 2)));
         assert_eq!(extent(16, (40, 32), (40, 32), 2), Some((3, 3)));
         assert_eq!(extent(16, (32, 40), (32, 40), 2), None);
-        assert_eq!(extent(48, (48, 40), (160, 40), 1), Some((3, 10)));
-        assert_eq!(extent(48, (48, 40), (160, 40), 4), None);
+        assert_eq!(extent(48, (48, 40), (160, 40), 1), None);
+        assert_eq!(extent(48, (48, 40), (160, 40), 4), Some((3, 10)));
         // The same 100 pixels to the left and below.
         assert_eq!(
-            extent(48, (48 - 1600, 40 - 1600), (160 - 1600, 40 - 1600), -99),
+            extent(48, (48 - 1600, 40 - 1600), (160 - 1600, 40 - 1600), -96),
             Some((-97, -90))
         );
         assert_eq!(extent(48, (48, 40), (160, 40), i64::MIN), None);
@@ -212,8 +212,8 @@ mod tests {
     #[test]
     fn the_comparison_can_fail() {
         let records = [
-            record(48, (48, 40), (160, 40), 1),
             record(48, (48, 40), (160, 40), 4),
+            record(48, (48, 40), (160, 40), 1),
             record(16, (-40, 32), (-40, 32), 2),
         ];
         let bytes = to_bytes(&records);

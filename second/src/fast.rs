@@ -91,7 +91,7 @@ fn extent(sides: &[Side], row: i64) -> Option<(i64, i64)> {
             last = last.min(rest.div_euclid(16 * x));
         } else if x < 0 {
             first = first.max((-rest).div_euclid(-16 * x) + 1);
-        } else if rest < 0 || (rest == 0 && y > 0) {
+        } else if rest < 0 || (rest == 0 && y < 0) {
             return None;
         }
     }

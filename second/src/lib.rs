@@ -1,5 +1,5 @@
 //! The second program as a library: a literal, slow reading of document 01, and of
-//! W1 and W4 in document 02, to compare the drawer with. `main.rs` has its commands.
+//! W1, W4 and W7 in document 02, to compare the drawer with. `main.rs` has its commands.
 
 pub mod abi;
 pub mod boundary;

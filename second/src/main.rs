@@ -1,4 +1,4 @@
-//! The second program: a literal, slow reading of document 01 and of W1 and W4 in
+//! The second program: a literal, slow reading of document 01 and of W1, W4 and W7 in
 //! document 02, to compare the proved programs with. See README.md for the commands and their
 //! byte streams.
 

@@ -1,10 +1,11 @@
 //! Figures 13 and 14 of source document 001 for a fall of one straight
-//! segment, line by line, and the rows where they differ from document 01.
+//! segment, line by line, and its rows against those of `sweep.rs`. The tests also
+//! have source document 000's rule for centres on the boundary.
 
 use crate::extent::Record;
 use crate::pen::{self, Corner};
 use crate::segments::random_segments;
-use crate::sweep::{centre, Sweep};
+use crate::sweep::{centre, kept, Sweep};
 use std::collections::HashMap;
 
 /// In sixteenths of a pixel.
@@ -115,14 +116,12 @@ fn do_fall(quarter: &[Corner], c: Point, c_end: Point) -> HashMap<i64, (i64, i64
     pixels
 }
 
-/// The black pixels of all rows within reach, under a rule for kept sides.
+/// The pixels of all rows within reach that are black, as first and last column of
+/// each row.
 fn black_rows(
-    quarter: &[Corner],
     record: &Record,
-    kept: impl Fn((i128, i128)) -> bool,
+    is_black: impl Fn((i128, i128)) -> bool,
 ) -> HashMap<i64, (i64, i64)> {
-    let wide = |z: (i32, i32)| (z.0 as i128, z.1 as i128);
-    let sweep = Sweep::new(&pen::whole(quarter), wide(record.a), wide(record.b));
     let range = |a: i32, b: i32, reach: i64| {
         let (low, high) = (a.min(b) as i64, a.max(b) as i64);
         (low - 8 * reach).div_euclid(16) - 1..=(high + 8 * reach).div_euclid(16) + 2
@@ -130,7 +129,7 @@ fn black_rows(
     let mut pixels = HashMap::new();
     for row in range(record.a.1, record.b.1, record.setting.dy()) {
         let black: Vec<i64> = range(record.a.0, record.b.0, record.setting.dx())
-            .filter(|&i| sweep.black_if_kept(centre(i as i128, row as i128), &kept))
+            .filter(|&i| is_black(centre(i as i128, row as i128)))
             .collect();
         if let (Some(&first), Some(&last)) = (black.first(), black.last()) {
             pixels.insert(row, (first, last));
@@ -139,10 +138,12 @@ fn black_rows(
     pixels
 }
 
-/// The rule that source 001's listing comes down to: flat tops instead of flat
-/// bottoms.
-fn kept_in_001(normal: (i128, i128)) -> bool {
-    normal.0 > 0 || (normal.0 == 0 && normal.1 > 0)
+fn wide(z: (i32, i32)) -> (i128, i128) {
+    (z.0 as i128, z.1 as i128)
+}
+
+fn sweep(record: &Record, quarter: &[Corner]) -> Sweep {
+    Sweep::new(&pen::whole(quarter), wide(record.a), wide(record.b))
 }
 
 /// Short segments that are no level ones.
@@ -154,28 +155,34 @@ fn falls(count: usize) -> Vec<Record> {
     list
 }
 
-/// What `second paper-differs` says about rows.
-pub fn report() -> String {
-    let (mut segments, mut rows, mut different, mut explained) = (0, 0, 0, 0);
-    let mut first = String::new();
+/// The listing's rows against those of a rule for kept sides.
+#[derive(Default)]
+struct Comparison {
+    segments: usize,
+    rows: usize,
+    different: usize,
+    first: String,
+}
+
+fn compare(kept: impl Fn((i128, i128)) -> bool) -> Comparison {
+    let mut outcome = Comparison::default();
     for record in falls(2_000) {
         let quarter = pen::quarter(&record.setting).expect("a good setting");
         let point = |z: (i32, i32)| (z.0 as i64, z.1 as i64);
         let theirs = do_fall(&quarter, point(record.a), point(record.b));
-        let ours = black_rows(&quarter, &record, crate::sweep::kept);
-        let turned = black_rows(&quarter, &record, kept_in_001);
-        segments += 1;
+        let sweep = sweep(&record, &quarter);
+        let ours = black_rows(&record, |x| sweep.black_if_kept(x, &kept));
+        outcome.segments += 1;
         let mut all: Vec<i64> = ours.keys().chain(theirs.keys()).copied().collect();
         all.sort_unstable();
         all.dedup();
         for row in all {
-            rows += 1;
+            outcome.rows += 1;
             if ours.get(&row) != theirs.get(&row) {
-                different += 1;
-                explained += usize::from(theirs.get(&row) == turned.get(&row));
-                if first.is_empty() {
-                    first = format!(
-                        "  first: w={} p={} q={}, {:?} to {:?}, row {row}: document 01 {:?}; 001 {:?}\n",
+                outcome.different += 1;
+                if outcome.first.is_empty() {
+                    outcome.first = format!(
+                        "  first: w={} p={} q={}, {:?} to {:?}, row {row}: the rule {:?}; 001 {:?}\n",
                         record.setting.w,
                         record.setting.p,
                         record.setting.q,
@@ -188,9 +195,15 @@ pub fn report() -> String {
             }
         }
     }
+    outcome
+}
+
+/// What `second paper-differs` says about rows.
+pub fn report() -> String {
+    let found = compare(kept);
     format!(
-        "rows by Figures 13 and 14: {segments} segments, {rows} rows, {different} different, \
-         {explained} of them as with flat tops kept and flat bottoms dropped\n{first}"
+        "rows by Figures 13 and 14: {} segments, {} rows, {} different\n{}",
+        found.segments, found.rows, found.different, found.first
     )
 }
 
@@ -199,48 +212,111 @@ mod tests {
     use super::*;
     use crate::setting::Setting;
 
-    /// The listing is document 01's rule with flat tops in place of flat
-    /// bottoms, and nothing else.
+    /// The listing's rows are the rule's, each of them. They are no other rule's:
+    /// many have a tie on a flat side, and many on a left or right one.
     #[test]
-    fn the_listing_keeps_tops() {
+    fn the_listing_has_the_rule() {
+        let own = compare(kept);
+        assert_eq!(own.different, 0, "{}", own.first);
+        let others: [(&str, fn((i128, i128)) -> bool); 5] = [
+            ("no flat side", |n| n.0 > 0),
+            ("both flat sides", |n| n.0 >= 0),
+            ("flat bottoms", |n| n.0 > 0 || (n.0 == 0 && n.1 < 0)),
+            ("left sides", |n| n.0 < 0 || (n.0 == 0 && n.1 > 0)),
+            ("neither left nor right", |n| n.0 == 0 && n.1 > 0),
+        ];
+        for (keeps, other) in others {
+            let different = compare(other).different;
+            assert!(different > 100, "{keeps}: {different}");
+        }
+    }
+
+    fn our_rows(record: &Record) -> HashMap<i64, (i64, i64)> {
+        let sweep = sweep(record, &pen::quarter(&record.setting).unwrap());
+        black_rows(record, |x| sweep.black(x))
+    }
+
+    /// A path of the examples in docs/SOURCES.md, at this x.
+    fn upright(x: i32) -> Record {
+        Record {
+            setting: Setting::new(48, 1, 1),
+            a: (x, 40),
+            b: (x, 104),
+            row: 0,
+        }
+    }
+
+    /// Its rows: 2 to 7, and 8 on the flat top.
+    fn rows(middle: (i64, i64), top: (i64, i64)) -> HashMap<i64, (i64, i64)> {
+        let mut rows: HashMap<_, _> = (2..=7).map(|row| (row, middle)).collect();
+        rows.insert(8, top);
+        rows
+    }
+
+    #[test]
+    fn the_example_for_001() {
+        let record = upright(48);
+        let quarter = pen::quarter(&record.setting).unwrap();
+        assert_eq!(our_rows(&record), rows((2, 4), (3, 3)));
+        assert_eq!(do_fall(&quarter, (48, 40), (48, 104)), rows((2, 4), (3, 3)));
+    }
+
+    /// Source 000, section 1.1: a centre z on the boundary of R counts where
+    /// z + (δ₁, -δ₂) lies in R, δ₁ being small and δ₂ smaller by far. All is
+    /// enlarged so much that these are whole numbers, and that no other centre comes
+    /// across the boundary by them.
+    fn rows_by_000(record: &Record) -> HashMap<i64, (i64, i64)> {
+        const ENLARGED: i128 = 1_000_000;
+        let (right, down) = (1_000, 1);
+        let large = |(x, y): (i128, i128)| (ENLARGED * x, ENLARGED * y);
+        let pen: Vec<Corner> = pen::whole(&pen::quarter(&record.setting).unwrap())
+            .iter()
+            .map(|&(x, y)| (ENLARGED as i64 * x, ENLARGED as i64 * y))
+            .collect();
+        let sweep = Sweep::new(&pen, large(wide(record.a)), large(wide(record.b)));
+        black_rows(record, |z| {
+            let (x, y) = large(z);
+            sweep.contains((x + right, y - down))
+        })
+    }
+
+    /// The rule in an upright mirror is source 000's, for level segments and dots
+    /// too.
+    #[test]
+    fn a_mirror_for_000() {
         let mut different = 0;
-        for record in falls(2_000) {
-            let quarter = pen::quarter(&record.setting).unwrap();
-            let point = |z: (i32, i32)| (z.0 as i64, z.1 as i64);
-            let theirs = do_fall(&quarter, point(record.a), point(record.b));
-            assert_eq!(
-                theirs,
-                black_rows(&quarter, &record, kept_in_001),
-                "{record:?}"
-            );
-            different += usize::from(theirs != black_rows(&quarter, &record, crate::sweep::kept));
+        for record in random_segments(2_000, 12) {
+            let far = |a: i32, b: i32| (a - b).abs() > 300;
+            if far(record.a.0, record.b.0) || far(record.a.1, record.b.1) {
+                continue;
+            }
+            let mirrored = Record {
+                a: (-record.a.0, record.a.1),
+                b: (-record.b.0, record.b.1),
+                ..record
+            };
+            let ours: HashMap<_, _> = our_rows(&mirrored)
+                .into_iter()
+                .map(|(row, (first, last))| (row, (-last, -first)))
+                .collect();
+            assert_eq!(rows_by_000(&record), ours, "{record:?}");
+            different += usize::from(ours != our_rows(&record));
         }
         assert!(different > 100, "{different}");
     }
 
-    /// The example in docs/SOURCES.md.
     #[test]
-    fn the_example() {
-        let record = Record {
-            setting: Setting::new(48, 1, 1),
+    fn the_examples_for_000() {
+        let record = upright(40);
+        assert_eq!(our_rows(&record), rows((2, 4), (3, 3)));
+        assert_eq!(rows_by_000(&record), rows((1, 3), (2, 2)));
+        let level = Record {
             a: (48, 40),
-            b: (48, 104),
-            row: 0,
+            b: (160, 40),
+            ..record
         };
-        let quarter = pen::quarter(&record.setting).unwrap();
-        let ours = black_rows(&quarter, &record, crate::sweep::kept);
-        let theirs = do_fall(&quarter, (48, 40), (48, 104));
-        for row in 0..=9 {
-            let middle = (2..=7).contains(&row).then_some((2, 4));
-            let ends = Some((3, 3));
-            assert_eq!(
-                ours.get(&row).copied(),
-                if row == 1 { ends } else { middle }
-            );
-            assert_eq!(
-                theirs.get(&row).copied(),
-                if row == 8 { ends } else { middle }
-            );
-        }
+        let both = HashMap::from([(2, (2, 11)), (3, (2, 11)), (4, (3, 10))]);
+        assert_eq!(our_rows(&level), both);
+        assert_eq!(rows_by_000(&level), both);
     }
 }

@@ -257,11 +257,12 @@ mod tests {
         drawing.columns = 6;
         assert_eq!(drawing.row(2), [(2, 5)]);
 
+        // "The stroke at height 40": its rows are those of document 02's W7.
         let drawing = Drawing::new(48, &[48, 40, 160, 40]);
         for row in 0..12 {
             let expected = match row {
-                1 => vec![(3, 10)],
                 2 | 3 => vec![(2, 11)],
+                4 => vec![(3, 10)],
                 _ => vec![],
             };
             assert_eq!(drawing.row(row), expected);

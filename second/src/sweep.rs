@@ -1,6 +1,6 @@
-//! "Which pixels are black" of document 01, for one segment. All numbers count
-//! sixteenths of a pixel. The sweep is decided by existence, the sides only
-//! say which of its boundary points count.
+//! "Which pixels are black" of document 01, with W7 of document 02, for one
+//! segment. All numbers count sixteenths of a pixel. The sweep is decided by
+//! existence, the sides only say which of its boundary points count.
 
 use crate::pen::Corner;
 
@@ -40,10 +40,11 @@ fn edge_lines(corners: &[Point]) -> Vec<Line> {
         .collect()
 }
 
-/// "a side is kept if its outward normal has a rightward part, level or
-/// slanting, or points straight down".
+/// Document 01: "a side is kept if its outward normal has a rightward part, level
+/// or slanting"; document 02, W7: "the normal straight down is dropped, straight up
+/// is kept; left and right stay".
 pub fn kept(normal: Point) -> bool {
-    normal.0 > 0 || (normal.0 == 0 && normal.1 < 0)
+    normal.0 > 0 || (normal.0 == 0 && normal.1 > 0)
 }
 
 /// One segment from a to b with a pen.
@@ -175,10 +176,10 @@ mod tests {
 
     #[test]
     fn kept_sides() {
-        for normal in [(1, 0), (1, 5), (1, -5), (0, -1), (300, 1)] {
+        for normal in [(1, 0), (1, 5), (1, -5), (0, 1), (300, 1)] {
             assert!(kept(normal));
         }
-        for normal in [(-1, 0), (-1, 5), (-1, -5), (0, 1)] {
+        for normal in [(-1, 0), (-1, 5), (-1, -5), (0, -1)] {
             assert!(!kept(normal));
         }
     }

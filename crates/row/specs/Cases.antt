@@ -96,7 +96,7 @@ table =
     rowsAre (setting 16 1 1) (dot 32 40) 20 12 (clear ∷ clear ∷ clear ∷ clear ∷ clear ∷ clear ∷ clear ∷ clear ∷ clear ∷ clear ∷ clear ∷ clear ∷ []) ∷
     rowsAre (setting 48 1 1) (line 48 32 160 32) 20 12 (clear ∷ run 3 11 ∷ run 2 11 ∷ run 3 11 ∷ clear ∷ clear ∷ clear ∷ clear ∷ clear ∷ clear ∷ clear ∷ clear ∷ []) ∷
     rowsAre (setting 48 1 1) (line 48 32 160 32) 6 12 (clear ∷ run 3 5 ∷ run 2 5 ∷ run 3 5 ∷ clear ∷ clear ∷ clear ∷ clear ∷ clear ∷ clear ∷ clear ∷ clear ∷ []) ∷
-    rowsAre (setting 48 1 1) (line 48 40 160 40) 20 12 (clear ∷ run 3 10 ∷ run 2 11 ∷ run 2 11 ∷ clear ∷ clear ∷ clear ∷ clear ∷ clear ∷ clear ∷ clear ∷ clear ∷ []) ∷
+    rowsAre (setting 48 1 1) (line 48 40 160 40) 20 12 (clear ∷ clear ∷ run 2 11 ∷ run 2 11 ∷ run 3 10 ∷ clear ∷ clear ∷ clear ∷ clear ∷ clear ∷ clear ∷ clear ∷ []) ∷
     []
 
 pub all-hold : all table ≡ true

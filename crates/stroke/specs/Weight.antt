@@ -9,8 +9,8 @@
 --   3. With c the greatest v x - u y over the pen's corners, the strip is -8 c < v (16 i - Ax) - u (16 j - Ay) <= 8 c: the value, taken 16 times, lies
 --      between two numbers that are 16 c apart, of which one counts. This is so for exactly c neighbouring values, wherever A stands.
 -- So v neighbouring rows hold exactly c black pixels, neither more nor fewer at any place along the stroke: one for each of those c values.
--- A level path is simpler. In a column far enough inside, a pixel is black exactly when its centre lies in the band -8 Dy <= 16 j - Ay < 8 Dy, the lower
--- line included and the upper one not: this is so for exactly Dy neighbouring j, wherever A stands.
+-- A level path is simpler. In a column far enough inside, a pixel is black exactly when its centre lies in the band -8 Dy < 16 j - Ay <= 8 Dy, the upper
+-- line included and the lower one not: this is so for exactly Dy neighbouring j, wherever A stands.
 -- The steps are in proofs/: 1 and 3 and the band's rows in Window, 2 in Rising (with NearEdge, on the edges near the ends), the level part in Level,
 -- and both together in WeightTheorems.
 use mathlib.Core.Path.{_≡_}

@@ -6,9 +6,9 @@ use lib.IntN.{ℤ, pos, negℤ, _*ℤ_}
 use Rattle.integers.specs.Orders.{_≺_}
 use Rattle.ties.specs.Kept.{kept}
 
--- the normals that are kept, one by one: those to the right, and the one straight down
+-- the normals that are kept, one by one: those to the right, and the one straight up
 abbrev pub KeptSays : Type 0
-KeptSays = (a b : ℤ) → (kept a b ≡ true) ↔ ((pos 0 ≺ a) ⊎ ((a ≡ pos 0) × (b ≺ pos 0)))
+KeptSays = (a b : ℤ) → (kept a b ≡ true) ↔ ((pos 0 ≺ a) ⊎ ((a ≡ pos 0) × (pos 0 ≺ b)))
 
 -- What the proofs use: of opposite normals exactly one is kept; a normal with a rightward part is; and a normal's length plays no part. Which of the two flat
 -- sides it is that is kept is none of these: so what is proved from them, line weight too, holds either way up.

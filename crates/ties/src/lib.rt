@@ -3,10 +3,10 @@ ghost use mathlib.Core.Path.{_≡_};
 ghost use lib.IntN.{pos};
 ghost use Rattle.ties.specs.Kept.{kept};
 
-// Whether a flat side with the normal (0, b) is kept: one that points straight down is. The rule for
+// Whether a flat side with the normal (0, b) is kept: one that points straight up is. The rule for
 // flat sides stands here and nowhere else in the code.
 pub fn keeps_flat(b: i64) -> bool
     ensures { λ r. ⌜ r ≡ kept (pos 0) b ⌝ }
 {
-    b < 0
+    0 < b
 }

@@ -7,7 +7,7 @@ use Rattle.ties.proofs.keeps_flat.Statement.{statement}
 use Rattle.ties.proofs.keeps_flat.Tie as tie
 
 returns : tie.Need-returns
-returns c = ltZ-at (par (c .fits .b)) (num (pos 0) tt) ∙ sym (kept-flat (c .args .b))
+returns c = ltZ-at (num (pos 0) tt) (par (c .fits .b)) ∙ sym (kept-flat (c .args .b))
 
 pub keeps-flat-spec : {M : Type 1} → statement M
 keeps-flat-spec = tie.close (tie.spec returns)
