@@ -10,7 +10,7 @@
 --   Window                             how many pixels the strip along a direction has, and the band along a level path
 --   Furthest, NearEdge, Rising         the black pixels of a middle row are those of the strip
 --   Level                              the black pixels of a middle column of a level path are those of the band
---   WeightTheorems, Answers            theorems 4, 5 and 6; and line weight over the runs of row answers
+--   WeightTheorems, Answers            theorems 4 to 7; and line weight over the runs of row answers
 --   Theorems                           all claims of specs/Theorems.antt, each under its name there
 pub mod Segments
 pub mod Lists

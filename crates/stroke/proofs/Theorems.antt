@@ -1,5 +1,5 @@
 -- The claims of specs/Theorems.antt, each under its name there.
-use Rattle.stroke.specs.Theorems.{PointsAre, DotIs, SegmentsAre, SweepSides, BlackTest, ExtentBlack, RunsLongest, LongestUnique, OffsetGreatest, RowsHold, ColumnHolds}
+use Rattle.stroke.specs.Theorems.{PointsAre, DotIs, SegmentsAre, SweepSides, BlackTest, ExtentBlack, RunsLongest, LongestUnique, OffsetGreatest, RowsHold, ColumnHolds, ColumnBand}
 use Rattle.stroke.proofs.Segments as paths
 use Rattle.stroke.proofs.Sweep.{sweep-iff}
 use Rattle.stroke.proofs.Black.{test-iff}
@@ -39,3 +39,6 @@ rows-hold = weights.rows-hold
 
 pub column-holds : ColumnHolds
 column-holds = weights.column-holds
+
+pub column-band : ColumnBand
+column-band = weights.column-band

@@ -15,7 +15,7 @@ use Rattle.stroke.specs.Sides.{sides}
 use Rattle.stroke.specs.Black.{Black, BlackPath}
 use Rattle.stroke.specs.Extent.{blackTest, In, extent}
 use Rattle.stroke.specs.Runs.{Run, Longest, rowRuns}
-use Rattle.stroke.specs.Weight.{offset, WeightOfRows, WeightOfColumn}
+use Rattle.stroke.specs.Weight.{offset, WeightOfRows, WeightOfColumn, BandOfColumn}
 
 -- what is claimed holds of every pen with the laws: of its corners, its width and its height, in half pixels
 abbrev pub EveryPen : (List Pt → ℤ → ℤ → Type 0) → Type 0
@@ -73,3 +73,7 @@ RowsHold = EveryPen λ cs Dx Dy. WeightOfRows cs Dy
 
 abbrev pub ColumnHolds : Type 0
 ColumnHolds = (cs : List Pt) (Dx : ℤ) (Dy : ℕ) → PenLaws cs Dx (pos Dy) → WeightOfColumn cs Dx Dy
+
+-- 7. which rows these are
+abbrev pub ColumnBand : Type 0
+ColumnBand = EveryPen λ cs Dx Dy. BandOfColumn cs Dx Dy

@@ -14,6 +14,7 @@
 -- The steps are in proofs/: 1 and 3 and the band's rows in Window, 2 in Rising (with NearEdge, on the edges near the ends), the level part in Level,
 -- and both together in WeightTheorems.
 use mathlib.Core.Path.{_≡_}
+use mathlib.Core.Logic.{_↔_}
 use mathlib.Core.List.{List, [], _∷_}
 use Prim.Native.Nat.{ℕ, _≤_}
 use lib.IntN.{ℤ, pos, negℤ, _+ℤ_, _-ℤ_, _*ℤ_}
@@ -72,3 +73,10 @@ WeightOfRows cs Dy =
 abbrev pub WeightOfColumn : List Pt → ℤ → ℕ → Type 0
 WeightOfColumn cs Dx Dy =
     (g : Seg) → g .from .y ≡ g .to .y → ¬ (g .from .x ≡ g .to .x) → (i : ℤ) → InsideColumn g Dx i → Number (λ j. BlackPixel cs g (record { column = i; row = j })) Dy
+
+-- Document 02, W7: "a boundary exactly on a centre rounds up: the lower boundary excludes that row and the upper one includes it". So the Dy rows are those past
+-- the lower boundary of a level stroke, Dy half pixels below the path, and up to the upper one
+abbrev pub BandOfColumn : List Pt → ℤ → ℤ → Type 0
+BandOfColumn cs Dx Dy =
+    (g : Seg) → g .from .y ≡ g .to .y → ¬ (g .from .x ≡ g .to .x) → (i j : ℤ) → InsideColumn g Dx i →
+    BlackPixel cs g (record { column = i; row = j }) ↔ ((g .from .y -ℤ pos 8 *ℤ Dy ≺ pos 16 *ℤ j) × (pos 16 *ℤ j ≼ g .from .y +ℤ pos 8 *ℤ Dy))
