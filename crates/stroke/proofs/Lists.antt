@@ -2,7 +2,7 @@
 use mathlib.Core.Path.{_≡_, refl, sym, ap, ap₂, _∙_, subst}
 use mathlib.Core.Logic.{_↔_}
 use mathlib.Core.Bool.{Bool, true, false, _&&_, _||_}
-use mathlib.Core.List.{List, [], _∷_, List·Memᴰ·head, List·Memᴰ·tail, List·Memᴰ·not-nil}
+use mathlib.Core.List.{List, [], _∷_, map, List·Memᴰ·head, List·Memᴰ·tail, List·Memᴰ·not-nil, Memᴰ·map, Memᴰ·of-map}
 use Rattle.integers.specs.Count.{_∈_}
 use Rattle.integers.proofs.Tests.{and-both, clash}
 use Rattle.stroke.specs.Extent.{all}
@@ -11,6 +11,9 @@ use Rattle.stroke.specs.Runs.{any}
 pub cons-all : {A : Type 0} (P : A → Type 0) {e : A} {l : List A} → P e → ((f : A) → f ∈ l → P f) → (f : A) → f ∈ e ∷ l → P f
 cons-all P h k f (List·Memᴰ·head q) = subst P (sym q) h
 cons-all P h k f (List·Memᴰ·tail m) = k f m
+
+pub map-iff : {A B : Type 0} (f : A → B) (P : B → Type 0) (l : List A) → ((x : A) → x ∈ l → P (f x)) ↔ ((y : B) → y ∈ map f l → P y)
+map-iff f P l = ((λ h y m. let r = Memᴰ·of-map f l m in subst P (r .2) (h (r .0) (r .1))), λ h x m. h (f x) (Memᴰ·map f m))
 
 pub all-iff : {A : Type 0} (t : A → Bool) (l : List A) → (all t l ≡ true) ↔ ((e : A) → e ∈ l → t e ≡ true)
 all-iff t [] = ((λ _ e m. absurd (List·Memᴰ·not-nil m)), λ _. refl)

@@ -1,8 +1,9 @@
 -- The claims of specs/Theorems.antt, each under its name there.
-use Rattle.stroke.specs.Theorems.{PointsAre, DotIs, SegmentsAre, SweepSides, BlackTest, ExtentBlack, RunsLongest, LongestUnique, OffsetGreatest, RowsHold, ColumnHolds, ColumnBand}
+use Rattle.stroke.specs.Theorems.{PointsAre, DotIs, SegmentsAre, SweepSides, BlackTest, BlackBeside, ExtentBlack, RunsLongest, LongestUnique, OffsetGreatest, RowsHold, ColumnHolds, ColumnBand}
 use Rattle.stroke.proofs.Segments as paths
 use Rattle.stroke.proofs.Sweep.{sweep-iff}
 use Rattle.stroke.proofs.Black.{test-iff}
+use Rattle.stroke.proofs.Beside as besides
 use Rattle.stroke.proofs.Columns.{extent-iff}
 use Rattle.stroke.proofs.Furthest as furthest
 use Rattle.stroke.proofs.WeightTheorems as weights
@@ -21,6 +22,9 @@ sweep-sides = sweep-iff
 
 pub black-test : BlackTest
 black-test = test-iff
+
+pub black-beside : BlackBeside
+black-beside = besides.black-beside
 
 pub extent-black : ExtentBlack
 extent-black = extent-iff

@@ -5,4 +5,5 @@ pub mod Black
 pub mod Extent
 pub mod Runs
 pub mod Weight
+pub mod Beside
 pub mod Theorems

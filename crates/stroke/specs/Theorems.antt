@@ -13,6 +13,7 @@ use Rattle.plane.specs.Polygon.{Side, dot, PenLaws}
 use Rattle.stroke.specs.Sweep.{Seg, pathPoints, segments, centre, Sweep}
 use Rattle.stroke.specs.Sides.{sides}
 use Rattle.stroke.specs.Black.{Black, BlackPath}
+use Rattle.stroke.specs.Beside.{BesideDecides}
 use Rattle.stroke.specs.Extent.{blackTest, In, extent}
 use Rattle.stroke.specs.Runs.{Run, Longest, rowRuns}
 use Rattle.stroke.specs.Weight.{offset, WeightOfRows, WeightOfColumn, BandOfColumn}
@@ -50,6 +51,11 @@ SweepSides = EveryPen λ cs Dx Dy. (g : Seg) (X : Pt) → Sweep cs g X ↔ ((e :
 -- 2. black by existence exactly when the test is passed. (That a centre outside the sweep is not black, even where a side drawn longer meets it, is `swept`.)
 abbrev pub BlackTest : Type 0
 BlackTest = EveryPen λ cs Dx Dy. (g : Seg) (X : Pt) → (blackTest cs g X ≡ true) ↔ Black cs g X
+
+-- 2b. and exactly when the point a little to the left of it, and by far less below it, lies in the sweep. This names no side and no normal: it holds the definitions of
+-- `sides` and `kept` to the sweep by existence
+abbrev pub BlackBeside : Type 0
+BlackBeside = EveryPen λ cs Dx Dy. (g : Seg) (X : Pt) → BesideDecides cs g X
 
 -- 3. a column is black for a segment exactly when it lies in the extent
 abbrev pub ExtentBlack : Type 0
