@@ -6,10 +6,9 @@ use native.Mathlib.Omega.{arith}
 use lib.IntN.{ℤ, pos, _+ℤ_, _*ℤ_}
 use lib.Signed.{ltZ, clashℤ}
 use Rattle.integers.specs.Orders.{_≼_, _≺_}
-use Rattle.integers.specs.Compare.{minZ, maxZ}
 use Rattle.integers.proofs.Ring.{ring, reify, _⊢_}
-use Rattle.integers.proofs.Order.{le-antisymm, lt-le, mul-cancel, mul-nn, sub-nn, sub-pos}
-use Rattle.integers.proofs.Tests.{lt-iff, ltz, min-case, max-case}
+use Rattle.integers.proofs.Order.{lt-le, mul-cancel, mul-nn, sub-nn, sub-pos}
+use Rattle.integers.proofs.Tests.{lt-iff, ltz, max-first, max-second, min-first, min-second}
 use Rattle.integers.proofs.Floor.{floorDiv-lo, le-floorDiv}
 use Rattle.extent.specs.declared.limit.Fraction.{Fraction}
 use Rattle.stroke.specs.Extent.{Limit, free, at, upper, lower}
@@ -24,19 +23,6 @@ ordered : (r a s b : ℤ) → pos 0 ≺ a → pos 0 ≺ b → r *ℤ b ≼ s *�
 ordered r a s b ha hb h =
     let q = lastTo r a in
     le-floorDiv s (pos 16 *ℤ b) q (sixteen-pos b hb) .1 (mul-cancel a (q *ℤ (pos 16 *ℤ b)) s ha (scaled r a s b q hb (floorDiv-lo r (pos 16 *ℤ a) (sixteen-pos a ha)) h))
-
--- ---- the lesser and the greater of two numbers in order
-min-l : (a b : ℤ) → a ≼ b → minZ a b ≡ a
-min-l a b h = elim (min-case a b) [ inl k ↦ k .0 | inr k ↦ k .0 ∙ le-antisymm b a (lt-le b a (k .1)) h ]
-
-min-r : (a b : ℤ) → b ≼ a → minZ a b ≡ b
-min-r a b h = elim (min-case a b) [ inl k ↦ k .0 ∙ le-antisymm a b (k .1) h | inr k ↦ k .0 ]
-
-max-l : (a b : ℤ) → b ≼ a → maxZ a b ≡ a
-max-l a b h = elim (max-case a b) [ inl k ↦ k .0 ∙ le-antisymm b a h (k .1) | inr k ↦ k .0 ]
-
-max-r : (a b : ℤ) → a ≼ b → maxZ a b ≡ b
-max-r a b h = elim (max-case a b) [ inl k ↦ k .0 | inr k ↦ k .0 ∙ le-antisymm a b h (lt-le b a (k .1)) ]
 
 one-more : (a b : ℤ) → a ≼ b → a +ℤ pos 1 ≼ b +ℤ pos 1
 one-more = ring 2 _ (λ ρ. simp (reify, ρ) (omega arith))
@@ -71,13 +57,13 @@ module _ (f : Fraction) (n d : ℤ) (hd : pos 0 ≺ d) where
   lesser-new (inl h) = most-given (record { num = n; by = d }) hd ∙ sym (ap (λ (l : Limit). upper l (lastTo n d)) (most-missing f h))
   lesser-new (inr h) =
       most-given (record { num = n; by = d }) hd
-      ∙ ap at (sym (min-r (lastTo (f .num) (f .by)) (lastTo n d) (ordered n d (f .num) (f .by) hd (h .0) (lt-le _ _ (h .1)))))
+      ∙ ap at (sym (min-second (lastTo (f .num) (f .by)) (lastTo n d) (ordered n d (f .num) (f .by) hd (h .0) (lt-le _ _ (h .1)))))
       ∙ sym (ap (λ (l : Limit). upper l (lastTo n d)) (most-given f (h .0)))
 
   pub lesser-old : pos 0 ≺ f .by → f .num *ℤ d ≼ n *ℤ f .by → atMost f ≡ upper (atMost f) (lastTo n d)
   lesser-old h k =
       most-given f h
-      ∙ ap at (sym (min-l (lastTo (f .num) (f .by)) (lastTo n d) (ordered (f .num) (f .by) n d h hd k)))
+      ∙ ap at (sym (min-first (lastTo (f .num) (f .by)) (lastTo n d) (ordered (f .num) (f .by) n d h hd k)))
       ∙ sym (ap (λ (l : Limit). upper l (lastTo n d)) (most-given f h))
 
   -- the greater one
@@ -86,12 +72,12 @@ module _ (f : Fraction) (n d : ℤ) (hd : pos 0 ≺ d) where
   greater-new (inr h) =
       let q = lastTo (f .num) (f .by) in
       least-given (record { num = n; by = d }) hd
-      ∙ ap at (sym (max-r (q +ℤ pos 1) (lastTo n d +ℤ pos 1) (one-more q (lastTo n d) (ordered (f .num) (f .by) n d (h .0) hd (lt-le _ _ (h .1))))))
+      ∙ ap at (sym (max-second (q +ℤ pos 1) (lastTo n d +ℤ pos 1) (one-more q (lastTo n d) (ordered (f .num) (f .by) n d (h .0) hd (lt-le _ _ (h .1))))))
       ∙ sym (ap (λ (l : Limit). lower l (lastTo n d +ℤ pos 1)) (least-given f (h .0)))
 
   pub greater-old : pos 0 ≺ f .by → n *ℤ f .by ≼ f .num *ℤ d → atLeast f ≡ lower (atLeast f) (lastTo n d +ℤ pos 1)
   greater-old h k =
       let q = lastTo (f .num) (f .by) in
       least-given f h
-      ∙ ap at (sym (max-l (q +ℤ pos 1) (lastTo n d +ℤ pos 1) (one-more (lastTo n d) q (ordered n d (f .num) (f .by) hd h k))))
+      ∙ ap at (sym (max-first (q +ℤ pos 1) (lastTo n d +ℤ pos 1) (one-more (lastTo n d) q (ordered n d (f .num) (f .by) hd h k))))
       ∙ sym (ap (λ (l : Limit). lower l (lastTo n d +ℤ pos 1)) (least-given f h))

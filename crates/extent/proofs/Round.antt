@@ -1,58 +1,21 @@
--- The edges of a pen one after the other: from corner i to the next one, which after the last is corner 0.
+-- The edges of a pen one after the other, and what each leaves of a row; then the two sides along the path.
 use Prim.Native.Nat.{ℕ, suc, _+_, _≤_, _<_}
 use native.Mathlib.Omega.{arith}
 use native.Mathlib.Numerals.{add-one}
 use mathlib.Core.Path.{_≡_, refl, sym, ap, _∙_}
-use mathlib.Core.Bool.{Bool, true, false, cond}
+use mathlib.Core.Bool.{true, false}
 use mathlib.Core.List.{List, [], _∷_, _++_, map}
-use lib.Dec.{ltb}
 use lib.ListN.{length, drop, drop-of-length-le}
 use lib.IntN.{ℤ, negℤ, _-ℤ_}
-use borrow.Author.Tests.{ltb-true, ltb-false}
 use Rattle.plane.specs.Point.{Pt, same, corners}
-use Rattle.plane.specs.Polygon.{Side, edge, chain, edges}
+use Rattle.plane.specs.Polygon.{Side, edge, edges}
+use Rattle.plane.proofs.Read.{origin, place, corners-long, from-place}
+use Rattle.plane.proofs.Round.{head, rest, rest-cons, edges-rest, cornerAfter, next}
 use Rattle.stroke.specs.Sweep.{Seg}
 use Rattle.stroke.specs.Sides.{moved, touching, pathSides}
 use Rattle.stroke.specs.Extent.{Left, narrow, narrowed}
-use Rattle.extent.proofs.Read.{origin, place, corners-long, from-place}
-
--- the first of a list, and of none the corner F
-abbrev head : Pt → List Pt → Pt
-head F [] = F
-head F (P ∷ l) = P
-
--- the edges from the corners of the list, the last one to F
-rest : Pt → List Pt → List Side
-rest F [] = []
-rest F (P ∷ l) = chain F P l
-
-rest-cons : (F P : Pt) (l : List Pt) → rest F (P ∷ l) ≡ edge P (head F l) ∷ rest F l
-unfolding rest chain
-rest-cons F P [] = refl
-rest-cons F P (Q ∷ l) = refl
-
-edges-rest : (cs : List Pt) → edges cs ≡ rest (head origin cs) cs
-unfolding rest edges
-edges-rest [] = refl
-edges-rest (P ∷ l) = refl
-
--- the place after place i of n
-abbrev pub cornerAfter : ℕ → ℕ → ℕ
-cornerAfter i n = cond (ltb (i + 1) n) (i + 1) 0
 
 module _ (n : ℕ) (xs ys : List ℤ) (h : n ≤ length xs) (k : n ≤ length ys) where
-  first : 0 < n → head origin (corners n xs ys) ≡ place xs ys 0
-  first l = ap (head origin) (from-place n xs ys 0 h k l)
-
-  next : (i : ℕ) → i < n → head (head origin (corners n xs ys)) (drop (suc i) (corners n xs ys)) ≡ place xs ys (cornerAfter i n)
-  next i l = go (ltb (i + 1) n) refl
-    where
-      go : (t : Bool) → ltb (i + 1) n ≡ t → head (head origin (corners n xs ys)) (drop (suc i) (corners n xs ys)) ≡ place xs ys (cond t (i + 1) 0)
-      go true e = ap (head (head origin (corners n xs ys))) (from-place n xs ys (suc i) h k (omega (arith, ltb-true (i + 1) n e))) ∙ ap (place xs ys) (sym (add-one i))
-      go false e =
-          ap (head (head origin (corners n xs ys))) (drop-of-length-le (corners n xs ys) {i = suc i} (omega (arith, corners-long n xs ys h k, ltb-false (i + 1) n e)))
-          ∙ first (omega arith)
-
   -- what is left after the edges from place i on
   pub leftSince : ℤ → Seg → ℕ → Left → Left
   leftSince j g i s = narrowed j (map (moved g) (rest (head origin (corners n xs ys)) (drop i (corners n xs ys)))) s
@@ -70,7 +33,7 @@ module _ (n : ℕ) (xs ys : List ℤ) (h : n ≤ length xs) (k : n ≤ length ys
         let m : List Side → Left = λ es. narrowed j (map (moved g) es) s in
         ap (λ (l : List Pt). m (rest F l)) (from-place n xs ys i h k l)
         ∙ ap m (rest-cons F (place xs ys i) cs)
-        ∙ ap (λ (Q : Pt). m (edge (place xs ys i) Q ∷ rest F cs)) (next i l)
+        ∙ ap (λ (Q : Pt). m (edge (place xs ys i) Q ∷ rest F cs)) (next n xs ys h k i l)
         ∙ ap (λ (k : ℕ). leftSince j g k (narrow j (moved g (edge (place xs ys i) (place xs ys (cornerAfter i n)))) s)) (sym (add-one i))
 
     pub since-end : (i : ℕ) → n ≤ i → leftSince j g i s ≡ s

@@ -5,6 +5,7 @@ use crate::limit::all;
 use crate::limit::narrow;
 use integers::max;
 use integers::min;
+use integers::wide;
 ghost use mathlib.Core.Path.{_≡_};
 ghost use mathlib.Core.Bool.{cond};
 ghost use mathlib.Core.List.{List, map};
@@ -25,14 +26,6 @@ pub struct Ends {
     pub ay: i64,
     pub bx: i64,
     pub by: i64,
-}
-
-// A corner's coordinate in the numbers that the rest counts with.
-fn wide(x: i8) -> i64
-    ensures same { λ r. ⌜ r ≡ x ⌝ }
-    ensures small { λ r. ⌜ Abs r 128 ⌝ }
-{
-    x as i64
 }
 
 // The corner after corner i of n, which after the last is the first.

@@ -56,7 +56,7 @@ differ : (A B : Pt) → same A B ≡ false → A .x ≡ B .x → A .y ≡ B .y �
 differ A B d p q = clash (and-true (eqZ (A .x) (B .x)) (eqZ (A .y) (B .y)) (eq-iff (A .x) (B .x) .1 p) (eq-iff (A .y) (B .y) .1 q)) d
 
 module _ (cs : List Pt) (Dx Dy : ℤ) (pen : PenLaws cs Dx Dy) (g : Seg) where
-  side-normal : (e : Side) → e ∈ sides cs g → Normal e
+  pub side-normal : (e : Side) → e ∈ sides cs g → Normal e
   side-normal =
       let A = g .from in
       let B = g .to in

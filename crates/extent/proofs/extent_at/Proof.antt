@@ -17,7 +17,7 @@ use Rattle.stroke.specs.Sides.{sides}
 use Rattle.stroke.specs.Extent.{Left, narrowed, spanOf, reached}
 use Rattle.extent.specs.Answer.{seg, allowed, answered}
 use Rattle.extent.specs.Held.{start, ends, Near, Held}
-use Rattle.extent.proofs.Read.{corners-all}
+use Rattle.plane.proofs.Read.{corners-all}
 use Rattle.extent.proofs.Answered.{allowed-near, none-outside, none-beyond, some-within}
 use borrow.Author.Needs.{needs}
 use Rattle.extent.proofs.extent_at.Statement.{statement}

@@ -15,7 +15,7 @@ use Rattle.extent.specs.declared.Extent.the-variants as extent·
 use Rattle.stroke.specs.Extent.{none, columns as span, spanOf}
 use Rattle.extent.specs.Answer.{answered}
 use Rattle.extent.specs.Held.{lastTo, left, Fair}
-use Rattle.extent.proofs.Bits.{bits, _⊕_, _⊗_}
+use Rattle.integers.proofs.Words.{bits, _⊕_, _⊗_}
 use Rattle.extent.proofs.Narrow.{nothing-flat, nothing-least, nothing-most, columns-between}
 use borrow.Author.Needs.{needs}
 use Rattle.extent.proofs.limit.columns.Statement.{statement}

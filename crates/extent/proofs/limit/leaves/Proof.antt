@@ -4,7 +4,7 @@ use lib.IntN.{pos}
 use mir.Syntax.{w64}
 use Rattle.integers.proofs.Machine.{par, leZ-at, ltZ-at}
 use Rattle.ties.specs.Kept.{kept}
-use Rattle.extent.proofs.Bits.{picked}
+use Rattle.integers.proofs.Words.{picked}
 use borrow.Author.Needs.{needs}
 use Rattle.extent.proofs.limit.leaves.Statement.{statement}
 use Rattle.extent.proofs.limit.leaves.Tie as tie

@@ -13,7 +13,8 @@ use Rattle.plane.specs.Polygon.{Side}
 use Rattle.extent.specs.declared.limit.Limits.{Limits}
 use Rattle.stroke.specs.Extent.{upper, lower, narrow}
 use Rattle.extent.specs.Held.{lastTo, atMost, atLeast, left, flatLeaves, Steady}
-use Rattle.extent.proofs.Bits.{bits, _⊖_, _⊗_, opposite, row-number, row-place, ap₃}
+use Rattle.integers.proofs.Words.{bits, _⊖_, _⊗_, opposite, ap₃}
+use Rattle.limits.proofs.Rows.{row-number, row-place}
 use Rattle.extent.proofs.Narrow.{narrow-right, narrow-left, narrow-flat}
 use borrow.Author.Needs.{needs}
 use Rattle.extent.proofs.limit.narrow.Statement.{statement}

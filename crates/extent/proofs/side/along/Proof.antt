@@ -13,7 +13,7 @@ use Rattle.plane.specs.Point.{pt, same, corners}
 use Rattle.stroke.specs.Sides.{touching}
 use Rattle.stroke.specs.Extent.{Left, narrow}
 use Rattle.extent.specs.Held.{left, ends}
-use Rattle.extent.proofs.Bits.{bits, _⊖_, opposite}
+use Rattle.integers.proofs.Words.{bits, _⊖_, opposite}
 use Rattle.extent.proofs.Round.{no-path, two-paths}
 use Rattle.extent.proofs.side.along.Statement.{statement}
 use Rattle.extent.proofs.side.along.Tie as tie

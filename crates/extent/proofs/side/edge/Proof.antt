@@ -10,7 +10,7 @@ use Rattle.integers.proofs.Machine.{Is, known, num, mul, mul-fits, add, add-fit
 use Rattle.plane.specs.Polygon.{Side}
 use Rattle.stroke.specs.Extent.{narrow}
 use Rattle.extent.specs.Held.{left, Near}
-use Rattle.extent.proofs.Bits.{bits, _⊕_, _⊖_, _⊗_, max-is, ap₃}
+use Rattle.integers.proofs.Words.{bits, _⊕_, _⊖_, _⊗_, max-is, ap₃}
 use borrow.Author.Needs.{needs}
 use Rattle.extent.proofs.side.edge.Statement.{statement}
 use Rattle.extent.proofs.side.edge.Tie as tie

@@ -18,9 +18,10 @@ use Rattle.stroke.specs.Sweep.{Seg}
 use Rattle.stroke.specs.Sides.{moved}
 use Rattle.stroke.specs.Extent.{Left, narrow, narrowed}
 use Rattle.extent.specs.Held.{Held, Steady, left, ends}
-use Rattle.extent.proofs.Bits.{bits, coordinate}
-use Rattle.extent.proofs.Read.{place}
-use Rattle.extent.proofs.Round.{cornerAfter, leftSince, since-start, since-next, since-end}
+use Rattle.integers.proofs.Words.{bits, coordinate}
+use Rattle.plane.proofs.Read.{place}
+use Rattle.plane.proofs.Round.{cornerAfter}
+use Rattle.extent.proofs.Round.{leftSince, since-start, since-next, since-end}
 use Rattle.extent.proofs.side.edges.Statement.{statement}
 use Rattle.extent.proofs.side.edges.Tie as tie
 

@@ -11,8 +11,9 @@ use Rattle.integers.proofs.Machine.{Is, known, num, weaken, mul, mul-fits, add,
 use Rattle.plane.specs.Point.{corners}
 use Rattle.plane.specs.Polygon.{dot}
 use Rattle.stroke.specs.Sides.{furthest}
-use Rattle.extent.proofs.Bits.{bits, _⊕_, _⊗_, coordinate, max-is}
-use Rattle.extent.proofs.Read.{place, furthest-none, furthest-more}
+use Rattle.integers.proofs.Words.{bits, _⊕_, _⊗_, coordinate, max-is}
+use Rattle.plane.proofs.Read.{place}
+use Rattle.extent.proofs.Read.{furthest-none, furthest-more}
 use Rattle.extent.proofs.side.furthest.Statement.{statement}
 use Rattle.extent.proofs.side.furthest.Tie as tie
 

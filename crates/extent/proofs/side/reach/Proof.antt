@@ -7,8 +7,8 @@ use mir.Syntax.{w64}
 use denote.Ref.{now}
 use Rattle.integers.proofs.Bound.{abs-pos}
 use Rattle.integers.proofs.Machine.{Is, num, sub-fits, bound}
-use Rattle.extent.proofs.Bits.{bits, coordinate, opposite}
-use Rattle.extent.proofs.Read.{reach-none, reach-some}
+use Rattle.integers.proofs.Words.{bits, coordinate, opposite}
+use Rattle.plane.proofs.Read.{reach-none, reach-some}
 use borrow.Author.Needs.{needs}
 use Rattle.extent.proofs.side.reach.Statement.{statement}
 use Rattle.extent.proofs.side.reach.Tie as tie

@@ -13,7 +13,8 @@ use Rattle.integers.proofs.Tests.{true-and, false-and}
 use Rattle.integers.proofs.Machine.{Is, known, num, mul, mul-fits, add, add-fits, sub, sub-fits, leZ-at}
 use Rattle.plane.specs.Polygon.{reach}
 use Rattle.plane.specs.Point.{corners}
-use Rattle.extent.proofs.Bits.{bits, _⊖_, _⊗_, row-number, row-place, max-is, min-is}
+use Rattle.integers.proofs.Words.{bits, _⊖_, _⊗_, max-is, min-is}
+use Rattle.limits.proofs.Rows.{row-number, row-place}
 use borrow.Author.Needs.{needs}
 use Rattle.extent.proofs.side.reached.Statement.{statement}
 use Rattle.extent.proofs.side.reached.Tie as tie

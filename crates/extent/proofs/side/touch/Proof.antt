@@ -13,7 +13,7 @@ use Rattle.plane.specs.Point.{corners}
 use Rattle.stroke.specs.Sides.{furthest}
 use Rattle.stroke.specs.Extent.{narrow}
 use Rattle.extent.specs.Held.{left}
-use Rattle.extent.proofs.Bits.{bits, _⊕_, _⊗_, ap₃}
+use Rattle.integers.proofs.Words.{bits, _⊕_, _⊗_, ap₃}
 use borrow.Author.Needs.{needs}
 use Rattle.extent.proofs.side.touch.Statement.{statement}
 use Rattle.extent.proofs.side.touch.Tie as tie

@@ -1,20 +1,18 @@
--- Signed machine numbers of the crate's own functions: what `max`, `min` and `wide` answer, in the record `Is` of the integers' proofs.
+-- Signed machine numbers of 64 bits: how an expression of them is written, and what the crate's functions answer of them, in the record `Is`.
 use mathlib.Core.Path.{_≡_, sym, ap, ap₂, subst, _∙_}
 use mathlib.Core.Bool.{Bool, cond}
 use mathlib.Core.Logic.{inl, inr}
-use Prim.Native.Nat.{ℕ, _+_, _^_, _<_}
-use native.Mathlib.Nat.{le-of-lt}
+use Prim.Native.Nat.{ℕ, _+_, _^_}
 use lib.Dec.{T, ltb}
 use lib.IntN.{ℤ, pos, negℤ, _+ℤ_, _-ℤ_, _*ℤ_, +ℤ-idl}
 use mir.Syntax.{Width, w8, w64}
 use mir.Val.{SFits, hbits, toZ, ofZ}
 use mir.Facts.{toZ-ofZ}
 use Rattle.integers.specs.Bound.{Abs}
-use Rattle.limits.specs.Sizes.{rasterMax}
 use Rattle.integers.specs.Compare.{minZ, maxZ}
 use Rattle.integers.proofs.Tests.{max-case, min-case}
 use Rattle.integers.proofs.Bound.{abs-fits}
-use Rattle.integers.proofs.Machine.{Is, got, num, of-nat, sub, mul, along}
+use Rattle.integers.proofs.Machine.{Is, got, num, sub, along}
 
 -- ---- what the machine computes of 64 bits
 abbrev pub bits : ℤ → ℕ
@@ -59,13 +57,6 @@ coordinate f h =
 -- the opposite number
 pub opposite : {x : ℤ} {m n : ℕ} → Is w64 x m n → T (ltb (0 + n) (2 ^ hbits w64)) → Is w64 (negℤ x) (bits (pos 0) ⊖ m) (0 + n)
 opposite {x} p t = along (+ℤ-idl (negℤ x)) (sub (num (pos 0) tt) p t)
-
--- a row, and its place in sixteenths of a pixel
-pub row-number : {j : ℕ} → j < rasterMax → Is w64 (pos j) j rasterMax
-row-number {j} h = of-nat j (le-of-lt h) tt
-
-pub row-place : {j : ℕ} → j < rasterMax → Is w64 (pos 16 *ℤ pos j) (bits (pos 16) ⊗ j) 262144
-row-place h = mul (num (pos 16) tt) (row-number h) tt
 
 -- what a test picks
 pub picked : {A : Type 0} {t u : Bool} (x y : A) → t ≡ u → cond t x y ≡ cond u x y

@@ -1,8 +1,8 @@
 -- A byte fits a wide number.
 use mir.Syntax.{w8, w64}
 use Rattle.integers.proofs.Machine.{par, cast, cast-fits, bound}
-use Rattle.extent.proofs.side.wide.Statement.{statement}
-use Rattle.extent.proofs.side.wide.Tie as tie
+use Rattle.integers.proofs.wide.Statement.{statement}
+use Rattle.integers.proofs.wide.Tie as tie
 
 cast-result : tie.Need-cast-result
 cast-result c = cast-fits (par {w = w8} (c .fits .x)) w64 tt
