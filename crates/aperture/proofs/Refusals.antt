@@ -11,10 +11,12 @@ use Rattle.limits.specs.Sizes.{apertureMin, apertureMax}
 use Rattle.limits.specs.declared.Verdict.{Verdict}
 use Rattle.limits.specs.declared.Verdict.the-variants.{Passed, Refused}
 use Rattle.limits.specs.Refusal.{aperture, inUse, unless, _then_}
+use Rattle.limits.proofs.Verdicts.{NotZero}
 use Rattle.limits.proofs.Exactly.{numberOf, Says, passes, refuses, unless-says, says-last, says-first}
 use Rattle.setting.specs.Answer.{checked, checkedVerdict}
 use Rattle.setting.proofs.Exactly.{setting-says}
 use Rattle.aperture.specs.declared.Table.{Table}
+use Rattle.aperture.specs.declared.Looked.{Looked}
 use Rattle.aperture.specs.declared.Looked.the-variants as looked·
 use Rattle.aperture.specs.Table.{vacant, holding, isNumber, isHeld, placeOf, withPlace, changed, defineVerdict, defined, removed, looked, lookedVerdict}
 use Rattle.aperture.specs.Refusals.{NoNumber, NoPen, DefineRefuses, RemoveRefuses}
@@ -60,6 +62,11 @@ look-says t n = go (isHeld t n) refl
     go : (h : Bool) → isHeld t n ≡ h → Says (lookedVerdict (looked t n)) 6 (NoPen t n)
     go true e = passes (ap lookedVerdict (looks-at t n e)) (held-good t n e)
     go false e = refuses 0 (ap lookedVerdict (looks-nowhere t n e)) (held-fails t n e)
+
+-- and no refusal of it is 0
+pub look-not-zero : (v : Looked) → NotZero (lookedVerdict v)
+look-not-zero (looked·.At i) = tt
+look-not-zero looked·.Refused = omega arith
 
 -- ---- the claims
 changed-number : (v : Verdict) (after before : Table) → changed v after before .refusal ≡ numberOf v

@@ -145,7 +145,7 @@ after-path p columns rows j needed space =
     (says-last (room-says needed space))))
 
 -- a call: what is checked of its pen comes first, and the room last
-in-order : (v a b c d r : Verdict) → ((v then a then b then c then d) then r) ≡ (v then a then b then c then d then r)
+pub in-order : (v a b c d r : Verdict) → ((v then a then b then c then d) then r) ≡ (v then a then b then c then d then r)
 in-order (Refused n p) a b c d r = refl
 in-order Passed (Refused n p) b c d r = refl
 in-order Passed Passed (Refused n p) c d r = refl

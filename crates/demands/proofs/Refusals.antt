@@ -24,8 +24,6 @@ use Rattle.setting.specs.Exactly.{BadSetting}
 use Rattle.setting.proofs.Exactly.{setting-says}
 use Rattle.pen.specs.Polygon.{pen}
 use Rattle.aperture.specs.declared.Table.{Table}
-use Rattle.aperture.specs.declared.Looked.{Looked}
-use Rattle.aperture.specs.declared.Looked.the-variants as looked·
 use Rattle.aperture.specs.Table.{looked, lookedVerdict, heldCorners}
 use Rattle.aperture.specs.Refusals.{NoPen}
 use Rattle.aperture.proofs.Refusals.{look-says}
@@ -37,6 +35,7 @@ use Rattle.checks.specs.Refuses.{Refuses}
 use Rattle.checks.proofs.Exactly.{path-says, Placed, unless-placed, zero-placed, then-placed, given-refuses, call-refuses, path-placed}
 use Rattle.row.specs.Answer.{runsOffer, rowResult}
 use Rattle.row.specs.Calls.{rowCall}
+use Rattle.row.proofs.Calls.{look-placed}
 use Rattle.packed.specs.Packed.{packedOffer, packResult, packedCall}
 use Rattle.records.specs.Theorems.{recordsOffer}
 use Rattle.records.proofs.Plain.{records-given}
@@ -45,10 +44,6 @@ use Rattle.demands.specs.Demand1.{RowRefuses, RunsForRefuses, RecordsRef
 use Rattle.demands.proofs.Heard.{runs-apart, packed-apart}
 
 -- ---- a table's aperture, or a pen
-look-placed : (p : List ℤ) (v : Looked) → Placed p (lookedVerdict v)
-look-placed p (looked·.At i) = zero-placed p Passed 6 (λ e. omega arith) (inl refl)
-look-placed p looked·.Refused = zero-placed p (Refused 6 0) 6 (λ e. omega arith) (inr refl)
-
 pub row-refuses : RowRefuses
 unfolding rowCall
 row-refuses t n p columns rows j l =

@@ -17,8 +17,7 @@ use Rattle.setting.specs.Answer.{checked, checkedVerdict}
 use Rattle.pen.specs.Polygon.{pen}
 use Rattle.pen.specs.Answer.{penCorners}
 use Rattle.aperture.specs.declared.Table.{Table}
-use Rattle.aperture.specs.declared.Looked.{Looked}
-use Rattle.aperture.specs.declared.Looked.the-variants as looked·
+use Rattle.aperture.proofs.Refusals.{look-not-zero}
 use Rattle.aperture.specs.Table.{looked, lookedVerdict, heldCorners}
 use Rattle.aperture.specs.Reachable.{Holds}
 use Rattle.aperture.proofs.Held.{held-corners}
@@ -60,10 +59,6 @@ bytes-runs [] l = refl
 bytes-runs (r ∷ rs) l = rw (two-bytes (r .left), two-bytes (r .right)) (ap (λ (k : List Run). r ∷ k) (bytes-runs rs l))
 
 -- ---- no refusal of a call is 0
-look-not-zero : (v : Looked) → NotZero (lookedVerdict v)
-look-not-zero (looked·.At i) = tt
-look-not-zero looked·.Refused = omega arith
-
 setting-not-zero : (c : Checked) → NotZero (checkedVerdict c)
 setting-not-zero (checked·.Taken σ) = tt
 setting-not-zero checked·.Refused = omega arith
