@@ -1,10 +1,11 @@
 -- The rule of kept sides a second way, and the laws that the proofs of demands 2 and 3 use. Each claim is a type; proofs/Theorems.antt proves it.
 use mathlib.Core.Path.{_≡_}
 use mathlib.Core.Logic.{_↔_, _⊎_}
-use mathlib.Core.Bool.{true, not}
-use lib.IntN.{ℤ, pos, negℤ, _*ℤ_}
-use Rattle.integers.specs.Orders.{_≺_}
+use mathlib.Core.Bool.{true, false, not}
+use lib.IntN.{ℤ, pos, negℤ, _+ℤ_, _*ℤ_}
+use Rattle.integers.specs.Orders.{_≼_, _≺_}
 use Rattle.ties.specs.Kept.{kept}
+use Rattle.ties.specs.Below.{below}
 
 -- the normals that are kept, one by one: those to the right, and the one straight up
 abbrev pub KeptSays : Type 0
@@ -19,3 +20,24 @@ pub record KeptLaws : Type 0 where
 
 abbrev pub KeptHas : Type 0
 KeptHas = KeptLaws
+
+-- the rows that meet an edge up to the height y: the one at y too
+abbrev pub BelowSays : Type 0
+BelowSays = (h y : ℤ) → (below h y ≡ true) ↔ (h ≼ y)
+
+-- What the proofs of the outline use of it. None of these says which end of an edge it is that belongs to it.
+pub record BelowLaws : Type 0 where
+  -- a row up to y is no higher, and one past y no lower; and a row that is past y and not past z lies on an edge that rises
+  pub upto : (h y : ℤ) → below h y ≡ true → h ≼ y
+  pub past : (h y : ℤ) → below h y ≡ false → y ≼ h
+  pub rising : (h y z : ℤ) → below h y ≡ false → below h z ≡ true → y ≺ z
+  -- lower rows, and higher ends; and both moved by as much
+  pub lower : (g h y : ℤ) → g ≼ h → below h y ≡ true → below g y ≡ true
+  pub higher : (h y z : ℤ) → y ≼ z → below h y ≡ true → below h z ≡ true
+  pub shifted : (h y d : ℤ) → below (h +ℤ d) (y +ℤ d) ≡ below h y
+  -- it goes with the rule of flat sides: a row that meets a dropped one, straight up at y or straight down, is not among the rows up to y, or past it
+  pub under-top : (h y b : ℤ) → pos 0 ≺ b → kept (pos 0) b ≡ false → below h y ≡ true → h ≺ y
+  pub over-bottom : (h y b : ℤ) → b ≺ pos 0 → kept (pos 0) b ≡ false → below h y ≡ false → y ≺ h
+
+abbrev pub BelowHas : Type 0
+BelowHas = BelowLaws
