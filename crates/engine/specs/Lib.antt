@@ -1,0 +1,3 @@
+-- Engine: starting, and one row after another. Theorems: it and the row answer are equal.
+pub mod Engine
+pub mod Theorems
