@@ -163,7 +163,7 @@ fn within(sequence: &mut Sequence, most: u64) -> u64 {
 }
 
 /// A straight path through a point, its ends far off.
-fn far_segment(sequence: &mut Sequence, (x, y): (i64, i64)) -> [(i64, i64); 2] {
+pub(crate) fn far_segment(sequence: &mut Sequence, (x, y): (i64, i64)) -> [(i64, i64); 2] {
     let direction = match sequence.below(4) {
         0 => (1, 0),
         1 => (0, 1),
@@ -249,7 +249,7 @@ fn comb(sequence: &mut Sequence, setting: &Setting, row: u64) -> Vec<i32> {
     coordinates
 }
 
-fn bad_coordinate(sequence: &mut Sequence) -> i32 {
+pub(crate) fn bad_coordinate(sequence: &mut Sequence) -> i32 {
     let limit = LIMIT as i32;
     let beyond = limit + 1 + sequence.below(4) as i32;
     match sequence.below(6) {

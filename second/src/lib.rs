@@ -1,9 +1,12 @@
 //! The second program as a library: a literal, slow reading of document 01, and of
-//! W1, W4 and W7 in document 02, to compare the drawer with. `main.rs` has its commands.
+//! W1, W2, W4 and W7 in document 02, to compare the drawer with. `main.rs` has its commands.
 
 pub mod abi;
 pub mod boundary;
 pub mod calls;
+pub mod engine;
+pub mod engine_kinds;
+pub mod engine_stream;
 pub mod extent;
 pub mod fast;
 pub mod gerber;
@@ -19,6 +22,7 @@ pub mod pbm;
 pub mod pen;
 pub mod pens;
 pub mod row;
+pub mod row_times;
 pub mod segments;
 pub mod setting;
 pub mod stream;

@@ -1,14 +1,14 @@
-//! The second program: a literal, slow reading of document 01 and of W1, W4 and W7 in
-//! document 02, to compare the proved programs with. See README.md for the commands and their
+//! The second program: a literal, slow reading of document 01 and of W1, W2, W4 and W7
+//! in document 02, to compare the proved programs with. See README.md for the commands and their
 //! byte streams.
 
 use second::setting::Setting;
 use second::table_stream::Source;
 use second::{
-    extent, gerber, gerber_cases, gerber_compare, overlay, overlay_pairs, paper, paper_rows, pbm,
-    pens, row, segments, stream,
+    engine, engine_stream, extent, gerber, gerber_cases, gerber_compare, overlay, overlay_pairs,
+    paper, paper_rows, pbm, pens, row, segments, stream,
 };
-use second::{table_calls, tries};
+use second::{row_times, table_calls, tries};
 use std::io::{Read, Write};
 use std::process::ExitCode;
 
@@ -24,7 +24,11 @@ const USAGE: &str = "usage: second COMMAND
   compare-extents RECORDS ANSWERS
   table-calls N SEED
   compare-table-calls COMMANDS ANSWERS
+  engine-steps N SEED
+  engine-answers
+  compare-engine REQUESTS ANSWERS
   row COLUMNS ROWS ROW ROOM W P Q X Y [X Y ...]
+  row-times literal|fast COLUMNS ROWS ROW COUNT TIMES W P Q X Y [X Y ...]
   pbm COLUMNS ROWS W P Q X Y [X Y ...] [/ W P Q X Y ...]
   overlay FIRST SECOND
   overlay-pairs DIR COUNT SEED
@@ -77,6 +81,11 @@ fn run(words: &[&str]) -> Result<(), String> {
         ["compare-table-calls", commands, answers] => {
             say(table_calls::compare(&file(commands)?, &file(answers)?))
         }
+        ["engine-steps", count, seed] => put(&engine_stream::stream(number(count)?, number(seed)?)),
+        ["engine-answers"] => put(&engine::answers(&input()?)?),
+        ["compare-engine", requests, answers] => {
+            say(engine::compare(&file(requests)?, &file(answers)?))
+        }
         ["row", columns, rows, row, room, stroke_words @ ..] => {
             let stroke = stroke(stroke_words)?;
             let request = row::Request {
@@ -100,6 +109,21 @@ fn run(words: &[&str]) -> Result<(), String> {
                 runs.concat()
             );
             put(format!("{line}\n").as_bytes())
+        }
+        ["row-times", way, columns, rows, row, count, times, stroke_words @ ..] => {
+            let stroke = stroke(stroke_words)?;
+            let rows = row_times::Rows {
+                request: row::Request {
+                    setting: stroke.setting,
+                    path: &stroke.path,
+                    columns: number(columns)?,
+                    rows: number(rows)?,
+                    row: number(row)?,
+                },
+                count: number(count)?,
+                times: number(times)?,
+            };
+            put(row_times::line(way, &rows).ok_or(USAGE)?.as_bytes())
         }
         ["pbm", columns, rows, strokes @ ..] => {
             let strokes: Vec<pbm::Stroke> = strokes

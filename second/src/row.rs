@@ -1,7 +1,7 @@
 //! The row answer and the packed row in the form of the plotter's host
 //! program: the setting as w, p, q, path and runs as bytes.
 
-use crate::pen;
+use crate::pen::{self, Corner};
 use crate::setting::Setting;
 use crate::sweep::{centre, Sweep};
 
@@ -79,6 +79,38 @@ pub fn check_all_but_setting(request: &Request) -> Result<Vec<i32>, Answer> {
     Ok(path)
 }
 
+/// A good path drawn with a pen: the sweeps of its segments.
+pub struct Drawn(pub Vec<Sweep>);
+
+impl Drawn {
+    pub fn new(quarter: &[Corner], path: &[i32]) -> Drawn {
+        let pen = pen::whole(quarter);
+        let points: Vec<(i128, i128)> = path
+            .chunks(2)
+            .map(|pair| (pair[0] as i128, pair[1] as i128))
+            .collect();
+        // "a path of one point is one such segment"
+        Drawn(if points.len() == 1 {
+            vec![Sweep::new(&pen, points[0], points[0])]
+        } else {
+            points
+                .windows(2)
+                .map(|ends| Sweep::new(&pen, ends[0], ends[1]))
+                .collect()
+        })
+    }
+
+    /// The black columns of a row, of so many. "A pixel is black when any segment
+    /// makes it so."
+    pub fn columns(&self, columns: u64, row: u64) -> Vec<u64> {
+        let black = |column: u64| {
+            let x = centre(column as i128, row as i128);
+            self.0.iter().any(|sweep| sweep.black(x))
+        };
+        (0..columns).filter(|&column| black(column)).collect()
+    }
+}
+
 /// The black columns of the row within the raster, or the first refusal of
 /// 1 (where 6 stood), 2, 4, 5, 3.
 fn black_columns(request: &Request) -> Result<Vec<u64>, Answer> {
@@ -86,29 +118,7 @@ fn black_columns(request: &Request) -> Result<Vec<u64>, Answer> {
         return Err(refused(1, 0));
     };
     let path = check_all_but_setting(request)?;
-
-    let pen = pen::whole(&quarter);
-    let points: Vec<(i128, i128)> = path
-        .chunks(2)
-        .map(|pair| (pair[0] as i128, pair[1] as i128))
-        .collect();
-    // "a path of one point is one such segment"
-    let sweeps: Vec<Sweep> = if points.len() == 1 {
-        vec![Sweep::new(&pen, points[0], points[0])]
-    } else {
-        points
-            .windows(2)
-            .map(|ends| Sweep::new(&pen, ends[0], ends[1]))
-            .collect()
-    };
-    // "A pixel is black when any segment makes it so."
-    let black = |column: u64| {
-        let x = centre(column as i128, request.row as i128);
-        sweeps.iter().any(|sweep| sweep.black(x))
-    };
-    Ok((0..request.columns)
-        .filter(|&column| black(column))
-        .collect())
+    Ok(Drawn::new(&quarter, &path).columns(request.columns, request.row))
 }
 
 /// "Runs are the longest unbroken stretches, so touching ones are joined."
@@ -123,14 +133,11 @@ fn runs_of(columns: &[u64]) -> Vec<(u64, u64)> {
     runs
 }
 
-/// The row answer. "a run is four bytes, left then right column, two bytes
-/// each, lowest first, and the room is the whole number of such fours."
-pub fn row_answer(request: &Request, list: &mut [u8]) -> Answer {
-    let columns = match black_columns(request) {
-        Ok(columns) => columns,
-        Err(answer) => return answer,
-    };
-    let runs = runs_of(&columns);
+/// The runs of these black columns in a list. "a run is four bytes, left then right
+/// column, two bytes each, lowest first, and the room is the whole number of such
+/// fours."
+pub fn put_runs(columns: &[u64], list: &mut [u8]) -> Answer {
+    let runs = runs_of(columns);
     let room = list.len() / 4;
     if runs.len() > room {
         return refused(7, 0);
@@ -140,6 +147,14 @@ pub fn row_answer(request: &Request, list: &mut [u8]) -> Answer {
         record[2..].copy_from_slice(&(right as u16).to_le_bytes());
     }
     done(runs.len())
+}
+
+/// The row answer.
+pub fn row_answer(request: &Request, list: &mut [u8]) -> Answer {
+    match black_columns(request) {
+        Ok(columns) => put_runs(&columns, list),
+        Err(answer) => answer,
+    }
 }
 
 /// The packed row: ceil(columns/8) bytes, the leftmost pixel in the highest

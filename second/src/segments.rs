@@ -81,7 +81,7 @@ pub fn some_way(sequence: &mut Sequence, setting: &Setting, step: i64) -> (i64, 
 
 /// The second end of a long segment: in any direction, level, upright, or
 /// nearly so, and often at a limit.
-fn far_end(sequence: &mut Sequence, x0: i64, y0: i64, step: i64) -> (i64, i64) {
+pub(crate) fn far_end(sequence: &mut Sequence, x0: i64, y0: i64, step: i64) -> (i64, i64) {
     let mut far = || match sequence.below(4) {
         0 => LIMIT,
         1 => -LIMIT,

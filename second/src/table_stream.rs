@@ -35,7 +35,7 @@ pub struct Source {
 
 /// A number that no aperture has, and such as come back to one in narrower
 /// arithmetic.
-fn strange_number(sequence: &mut Sequence) -> u64 {
+pub(crate) fn strange_number(sequence: &mut Sequence) -> u64 {
     let number = 10 + sequence.below(32);
     match sequence.below(9) {
         0 => 9,

@@ -1,0 +1,297 @@
+//! What the requests and steps reach that are tried on the engine, counted.
+
+use crate::engine::{Engine, Request};
+use crate::engine_stream::all_pens;
+use crate::pen;
+use crate::row::Answer;
+use crate::sweep::{centre, Point, Sweep};
+use std::collections::HashSet;
+use std::fmt;
+
+/// A start or a step that was answered.
+pub struct Driven<'b, 'a> {
+    pub request: &'a Request,
+    /// None where the start was refused.
+    pub engine: Option<&'b Engine<'a>>,
+    /// The row in which the engine stood.
+    pub row: u64,
+    /// Which step; None for the start.
+    pub step: Option<usize>,
+    /// What was answered before it, and what was answered.
+    pub before: Answer,
+    pub answer: Answer,
+}
+
+impl Driven<'_, '_> {
+    /// A start that was not refused.
+    fn started(&self) -> bool {
+        self.step.is_none() && self.answer.refusal == 0
+    }
+
+    fn refused_start(&self, refusal: u8) -> bool {
+        self.step.is_none() && self.answer.refusal == refusal
+    }
+
+    /// A step that was answered so.
+    fn step_of(&self, refusal: u8) -> bool {
+        self.step.is_some() && self.engine.is_some() && self.answer.refusal == refusal
+    }
+
+    /// A step that gave a run.
+    fn black(&self) -> bool {
+        self.step_of(0) && self.answer.count > 0
+    }
+
+    fn room(&self) -> u8 {
+        self.step.map_or(0, |i| self.request.rooms[i])
+    }
+
+    /// From the first end to the second.
+    fn way(&self) -> (i64, i64) {
+        let [a, b] = self.request.ends();
+        (b.0 - a.0, b.1 - a.1)
+    }
+
+    /// The lowest and the highest height of the sweep, and the least and the
+    /// greatest x.
+    fn bounds(&self) -> [i64; 4] {
+        let [a, b] = self.request.ends();
+        let (x, y) = (8 * self.request.setting.dx(), 8 * self.request.setting.dy());
+        [
+            a.1.min(b.1) - y,
+            a.1.max(b.1) + y,
+            a.0.min(b.0) - x,
+            a.0.max(b.0) + x,
+        ]
+    }
+
+    fn height(&self) -> i64 {
+        16 * self.row as i64
+    }
+
+    /// The centre of a column in this row.
+    fn centre(&self, column: i128) -> Point {
+        centre(column, self.row as i128)
+    }
+
+    /// Whether a column's centre lies in the sweep, sides included.
+    fn within(&self, column: i128) -> bool {
+        self.engine
+            .is_some_and(|engine| engine.drawn.0[0].contains(self.centre(column)))
+    }
+
+    /// Whether it lies on a side.
+    fn on_a_side(&self, column: i128) -> bool {
+        let off = |sweep: &Sweep| sweep.black_if_kept(self.centre(column), |_| false);
+        self.within(column) && self.engine.is_some_and(|engine| !off(&engine.drawn.0[0]))
+    }
+
+    /// The run's columns, where there is one.
+    fn run(&self) -> Option<(i128, i128)> {
+        if !self.black() {
+            return None;
+        }
+        let columns = self.engine?.drawn.columns(self.request.columns, self.row);
+        Some((*columns.first()? as i128, *columns.last()? as i128))
+    }
+
+    /// Whether the path runs along an edge of the pen that is neither level nor
+    /// upright.
+    fn along_an_edge(&self) -> bool {
+        let (u, v) = self.way();
+        let quarter = pen::quarter(&self.request.setting).expect("started with a pen");
+        let corners = pen::whole(&quarter);
+        let next = corners.iter().cycle().skip(1);
+        u != 0 && v != 0 && {
+            let mut edges = corners.iter().zip(next);
+            edges.any(|(from, to)| (to.0 - from.0) * v == (to.1 - from.1) * u)
+        }
+    }
+}
+
+type Kind = (&'static str, fn(&Driven) -> bool);
+
+/// Of starts.
+const STARTS: [Kind; 25] = [
+    ("started", |d| d.started()),
+    ("one point", |d| d.started() && d.request.path.len() == 2),
+    ("two equal points", |d| {
+        d.started() && d.request.path.len() == 4 && d.way() == (0, 0)
+    }),
+    ("level", |d| d.started() && d.way().1 == 0 && d.way().0 != 0),
+    ("upright", |d| {
+        d.started() && d.way().0 == 0 && d.way().1 != 0
+    }),
+    ("nearly level", |d| {
+        d.started() && d.way().1 != 0 && 16 * d.way().1.abs() <= d.way().0.abs()
+    }),
+    ("nearly upright", |d| {
+        d.started() && d.way().0 != 0 && 16 * d.way().0.abs() <= d.way().1.abs()
+    }),
+    ("downwards", |d| d.started() && d.way().1 < 0),
+    ("along an edge of the pen", |d| {
+        d.started() && d.along_an_edge()
+    }),
+    ("an end at a limit", |d| {
+        d.started() && d.request.path.iter().any(|c| c.abs() == 262_144)
+    }),
+    ("both ends at a limit", |d| {
+        let at_limit = |p: (i64, i64)| p.0.abs() == 262_144 || p.1.abs() == 262_144;
+        d.started() && d.request.ends().iter().all(|&p| at_limit(p))
+    }),
+    ("left of the raster", |d| d.started() && d.bounds()[3] < 0),
+    ("right of the raster", |d| {
+        d.started() && d.bounds()[2] > 16 * d.request.columns as i64
+    }),
+    ("from far below", |d| {
+        d.started() && d.height() + 16 * 16 < d.bounds()[0]
+    }),
+    ("from below", |d| d.started() && d.height() < d.bounds()[0]),
+    ("from the lowest height", |d| {
+        d.started() && d.height() == d.bounds()[0]
+    }),
+    ("from the middle", |d| {
+        d.started() && d.bounds()[0] < d.height() && d.height() < d.bounds()[1]
+    }),
+    ("from the highest height", |d| {
+        d.started() && d.height() == d.bounds()[1]
+    }),
+    ("from above", |d| d.started() && d.bounds()[1] < d.height()),
+    ("from the last row", |d| {
+        d.started() && d.row + 1 == d.request.rows
+    }),
+    ("refused start, 6", |d| d.refused_start(6)),
+    ("2", |d| d.refused_start(2)),
+    ("4", |d| d.refused_start(4)),
+    ("5", |d| d.refused_start(5)),
+    ("3", |d| d.refused_start(3)),
+];
+
+/// Of steps.
+const STEPS: [Kind; 15] = [
+    ("a step after a refused start", |d| {
+        d.step.is_some() && d.engine.is_none()
+    }),
+    ("black rows", |d| d.black()),
+    ("clear rows", |d| d.step_of(0) && d.answer.count == 0),
+    ("clear with no room", |d| {
+        d.step_of(0) && d.answer.count == 0 && d.room() == 0
+    }),
+    ("just enough room", |d| d.black() && d.room() == 2),
+    ("more room", |d| d.black() && d.room() > 3),
+    ("no room (7)", |d| d.step_of(7) && d.room() == 0),
+    ("room 1 (7)", |d| d.step_of(7) && d.room() == 1),
+    ("black after 7", |d| d.black() && d.before.refusal == 7),
+    ("7 after 7", |d| d.step_of(7) && d.before.refusal == 7),
+    ("past the last row (5)", |d| d.step_of(5)),
+    ("5 after 5", |d| d.step_of(5) && d.before.refusal == 5),
+    ("a centre on a flat top", |d| {
+        d.black() && d.height() == d.bounds()[1]
+    }),
+    ("a centre on a flat bottom", |d| {
+        let columns = d.request.columns as i128;
+        d.step_of(0) && d.height() == d.bounds()[0] && (0..columns).any(|i| d.within(i))
+    }),
+    ("16,384 columns", |d| {
+        d.black() && d.request.columns == 16_384
+    }),
+];
+
+/// A run, and the film's columns.
+type Span = (i128, i128, u64);
+type SpanKind = (&'static str, fn(&Driven, Span) -> bool);
+
+/// Of steps that gave a run.
+const SPANS: [SpanKind; 4] = [
+    ("a centre on the left flank", |d, (first, ..)| {
+        first > 0 && d.within(first - 1)
+    }),
+    ("a centre on the right flank", |d, (_, last, columns)| {
+        last + 1 < columns as i128 && d.on_a_side(last)
+    }),
+    ("cut on the left", |d, (first, ..)| {
+        first == 0 && d.within(-1)
+    }),
+    ("cut on the right", |d, (_, last, columns)| {
+        last + 1 == columns as i128 && d.within(last + 1)
+    }),
+];
+
+/// A stream with fewer steps need not have all kinds; and one with fewer need not
+/// have all pens.
+const LONG: u64 = 20_000;
+const LONGEST: u64 = 1_000_000;
+
+/// What a stream had in it.
+#[derive(Default)]
+pub struct Counts {
+    pub steps: u64,
+    starts: [u64; STARTS.len()],
+    driven: [u64; STEPS.len()],
+    spans: [u64; SPANS.len()],
+    /// The pens of the settings that were started with, by their quarters.
+    pens: HashSet<Vec<pen::Corner>>,
+}
+
+impl Counts {
+    pub fn count(&mut self, driven: &Driven) {
+        self.steps += u64::from(driven.step.is_some());
+        let (counts, kinds) = match driven.step {
+            None => (&mut self.starts[..], &STARTS[..]),
+            Some(_) => (&mut self.driven[..], &STEPS[..]),
+        };
+        for (count, (_, is)) in counts.iter_mut().zip(kinds) {
+            *count += u64::from(is(driven));
+        }
+        if let Some((first, last)) = driven.run() {
+            for (count, (_, is)) in self.spans.iter_mut().zip(SPANS) {
+                *count += u64::from(is(driven, (first, last, driven.request.columns)));
+            }
+        }
+        if driven.started() {
+            self.pens.extend(pen::quarter(&driven.request.setting));
+        }
+    }
+
+    fn all(&self) -> impl Iterator<Item = (&'static str, u64)> + '_ {
+        let kinds = STARTS.iter().chain(&STEPS).map(|kind| kind.0);
+        let spans = SPANS.iter().map(|kind| kind.0);
+        let counts = self.starts.iter().chain(&self.driven).chain(&self.spans);
+        kinds.chain(spans).zip(counts.copied())
+    }
+
+    pub fn rarest(&self) -> (&'static str, u64) {
+        let rarest = self.all().min_by_key(|kind| kind.1);
+        rarest.expect("there are kinds")
+    }
+
+    pub fn pens(&self) -> usize {
+        self.pens.len()
+    }
+
+    /// A kind that a long stream does not have.
+    pub fn missing(&self) -> Option<&'static str> {
+        let (kind, count) = self.rarest();
+        if self.steps >= LONG && count == 0 {
+            return Some(kind);
+        }
+        let few = self.steps >= LONGEST && self.pens() < all_pens().len();
+        few.then_some("every pen there is")
+    }
+}
+
+impl fmt::Display for Counts {
+    fn fmt(&self, f: &mut fmt::Formatter) -> fmt::Result {
+        let words: Vec<String> = self
+            .all()
+            .map(|(name, count)| format!("{name}: {count}"))
+            .collect();
+        write!(
+            f,
+            "engine: {} steps, {} pens; {}",
+            self.steps,
+            self.pens(),
+            words.join("; ")
+        )
+    }
+}
