@@ -1,11 +1,11 @@
 -- How the code goes about a row: each segment's extent is cut to the raster, and laid over the bytes of a packed row. `black-cut` and `laid-row`
 -- (proofs/Raster, Together) say that it comes to the same as `blackAt`.
-use Prim.Native.Nat.{ℕ, suc, _+_, _*_, _≤_, _<_, min, max}
+use Prim.Native.Nat.{ℕ, suc, _≤_, _<_, min, max}
 use mathlib.Core.Path.{_≡_}
 use mathlib.Core.Bool.{Bool, true, false, cond, _&&_}
 use mathlib.Core.List.{List, [], _∷_, map}
 use lib.Dec.{leb, ltb}
-use lib.ListN.{length, getD}
+use lib.ListN.{length}
 use lib.IntN.{ℤ, pos, natAbs, _-ℤ_}
 use lib.Signed.{leZ}
 use Rattle.integers.specs.Compare.{minZ, maxZ}
@@ -15,7 +15,7 @@ use Rattle.bits.specs.Bits.{packedLength, packed, laidOver}
 use Rattle.stroke.specs.Sweep.{Seg, segments, pathPoints}
 use Rattle.extent.specs.declared.Extent.{Extent}
 use Rattle.extent.specs.declared.Extent.the-variants as extent·
-use Rattle.extent.specs.Answer.{seg, extentOf}
+use Rattle.extent.specs.Answer.{extentOf}
 use Rattle.stroke.specs.Runs.{any}
 use Rattle.cuts.specs.declared.cut.Cut.{Cut}
 use Rattle.cuts.specs.declared.cut.Cut.the-variants as cut·
@@ -40,13 +40,6 @@ cuts cs path columns j = map (λ g. cutTo columns (extentIn cs j g)) (segments p
 -- the same of the lists that the code holds: the corners are the first `count` of xs and ys, and the path is a list of entries
 abbrev pub cutsOf : List ℤ → List ℤ → ℕ → List ℤ → ℕ → ℕ → List Cut
 cutsOf xs ys count path columns j = cuts (corners count xs ys) (pathPoints path) columns j
-
--- segment k of a path starts at the entry 2 k, and ends at the entry `end`
-pub record EndsAt (path : List ℤ) (k end : ℕ) : Type 0 where
-  pub after : 2 * k ≤ end
-  pub held : end + 1 < length path
-  pub segment : (g : Seg) → getD (segments (pathPoints path)) k g
-      ≡ seg (getD path (2 * k) (pos 0)) (getD path (2 * k + 1) (pos 0)) (getD path end (pos 0)) (getD path (end + 1) (pos 0))
 
 -- the columns of a cut, where it has any, are in order, and lie below n
 abbrev pub Below : ℕ → Cut → Type 0

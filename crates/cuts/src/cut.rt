@@ -1,4 +1,4 @@
-// The segments of a path, and the columns of each in a row, cut to the raster.
+// The columns of a path's segments in a row, cut to the raster.
 use crate::Touch;
 use extent::Extent;
 use integers::max;
@@ -9,23 +9,12 @@ ghost use lib.ListN.{length, getD};
 ghost use Rattle.limits.specs.Sizes.{Size};
 ghost use Rattle.stroke.specs.Sweep.{segments, pathPoints};
 ghost use Rattle.extent.specs.declared.Extent.the-variants as extent·;
-ghost use Rattle.cuts.specs.Cuts.{cutTo, cutsOf, EndsAt, Below, touched, touchOf};
+ghost use Rattle.cuts.specs.Cuts.{cutTo, cutsOf, Below, touched, touchOf};
 
 // The columns of one segment within the raster, both included, or none.
 pub enum Cut {
     Nothing,
     Columns(usize, usize),
-}
-
-// One for each point after the first, and one for a path of one point.
-pub fn segment_count(path: &[i32]) -> usize
-    ensures { λ r. ⌜ r ≡ length (segments (pathPoints (now (path .entry)))) ⌝ }
-{
-    let points = path.len() / 2;
-    if points <= 1 {
-        return points;
-    }
-    points - 1
 }
 
 // The columns from first to last that the raster has. They can lie anywhere: both are compared with
@@ -56,19 +45,6 @@ fn touched(t: Touch, c: Cut) -> Touch
     }
 }
 
-// Where the end of segment k stands in the path: after its start, or, where the path is one point,
-// there.
-fn end_of(path: &[i32], k: usize) -> usize
-    requires { ⌜ k < length (segments (pathPoints (now path))) ⌝ }
-    ensures { λ r. ⌜ EndsAt (now (path .entry)) k r ⌝ }
-{
-    let from = 2 * k;
-    if from + 3 < path.len() {
-        return from + 2;
-    }
-    from
-}
-
 // The columns of the raster that segment k has in a row, for the pen whose corners are the first
 // `count` places of xs and ys.
 pub fn cut_at<'a>(
@@ -85,7 +61,7 @@ pub fn cut_at<'a>(
     ensures cut { λ r. ⌜ r ≡ getD (cutsOf (now (xs .entry)) (now (ys .entry)) count (now (path .entry)) columns row) k Cut.Nothing ⌝ }
     ensures below { λ r. ⌜ Below columns r ⌝ }
 {
-    let to = end_of(path, k);
+    let to = segments::end_of(path, k);
     let from = 2 * k;
     let e = extent::extent_at(
         xs,
@@ -115,7 +91,7 @@ pub fn first_touches<'a>(
     requires { ⌜ Size columns ⌝ }
     ensures { λ r. ⌜ r ≡ touchOf (cutsOf (now (xs .entry)) (now (ys .entry)) count (now (path .entry)) columns row) Touch.Untouched ⌝ }
 {
-    let n = segment_count(path);
+    let n = segments::count(path);
     let mut t = Touch::Untouched;
     let mut k = 0;
     while k < n {

@@ -4,7 +4,6 @@
 use crate::Bounds;
 use crate::cut::Cut;
 use crate::cut::cut_at;
-use crate::cut::segment_count;
 use integers::max_usize;
 use integers::min_usize;
 ghost use mathlib.Core.Path.{_≡_};
@@ -66,7 +65,7 @@ pub fn lay_cuts<'a>(
         ≡ laidOver (now (bytes .entry)) (packed (blackCut (cutsOf (now (xs .entry)) (now (ys .entry)) count (now (path .entry)) columns row)) columns) ⌝ }
     ensures bounds { λ r. ⌜ r ≡ boundsOf (cutsOf (now (xs .entry)) (now (ys .entry)) count (now (path .entry)) columns row) unbounded ⌝ }
 {
-    let n = segment_count(path);
+    let n = segments::count(path);
     let mut b = Bounds { first: 0, end: 0 };
     let mut k = 0;
     while k < n {

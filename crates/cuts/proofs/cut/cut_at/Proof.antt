@@ -2,6 +2,7 @@
 use Rattle.extent.specs.Answer.{extentOf, seg}
 use Rattle.extent.specs.declared.Extent.{Extent}
 use Rattle.extent.specs.declared.Extent.the-variants as extent·
+use Rattle.segments.specs.Ends.{EndsAt}
 use Rattle.cuts.specs.declared.cut.Cut.{Cut}
 use Rattle.cuts.specs.declared.cut.Cut.the-variants as cut·
 use Rattle.cuts.specs.Cuts.{cutTo, extentIn, cutsOf, Below}
@@ -54,6 +55,10 @@ found c = c .before .before .before .before
 abbrev asked : tie.After-extent-at → tie.Start
 asked c = start (found (c .before))
 
+-- the segment's end, which is one of the path's segments
+ends : (c : tie.After-end-of) → EndsAt (start c .args .path .now) (start c .args .k) (c .end-of .result)
+ends c = c .end-of .ensures (start c .pre .0)
+
 -- the four entries that were read are those of the segment's ends
 is-answer : (c : tie.After-extent-at) → c .extent-at .result ≡ answer (asked c)
 is-answer c =
@@ -62,7 +67,7 @@ is-answer c =
     c .extent-at .ensures
     ∙ same-extent (pen s) (s .args .row) (reads w32 (d .before .before .before .extent-at-arg .given)) (reads w32 (d .before .before .extent-at-arg2 .given))
     (reads w32 (d .before .extent-at-arg3 .given)) (reads w32 (d .extent-at-arg4 .given))
-    ∙ ap (extentIn (pen s) (s .args .row)) (sym (found d .end-of .ensures .segment past))
+    ∙ ap (extentIn (pen s) (s .args .row)) (sym (ends (found d) .segment past))
 
 -- so what is cut as the definition cuts it is the cut of the segment, and lies in the raster
 is-cut-of : (c : tie.After-extent-at) {r : Cut} → let a = asked c .args in r ≡ cutTo (a .columns) (c .extent-at .result) →
@@ -75,37 +80,37 @@ end-of-requires : tie.Need-end-of-requires
 end-of-requires c κs = search needs
 
 mul-from : tie.Need-mul-from
-mul-from c = search needs
+mul-from c = search (needs, ends c)
 
 mul-extent-at : tie.Need-mul-extent-at
-mul-extent-at c = search needs
+mul-extent-at c = search (needs, ends c)
 
 shared-slice-copy-out-extent-at : tie.Need-shared-slice-copy-out-extent-at
-shared-slice-copy-out-extent-at c = search needs
+shared-slice-copy-out-extent-at c = search (needs, ends c)
 
 add-extent-at : tie.Need-add-extent-at
-add-extent-at c = search needs
+add-extent-at c = search (needs, ends (c .before))
 
 mul-extent-at-2 : tie.Need-mul-extent-at-2
-mul-extent-at-2 c = search needs
+mul-extent-at-2 c = search (needs, ends (c .before))
 
 shared-slice-copy-out-extent-at-2 : tie.Need-shared-slice-copy-out-extent-at-2
-shared-slice-copy-out-extent-at-2 c = search needs
+shared-slice-copy-out-extent-at-2 c = search (needs, ends (c .before))
 
 mul-extent-at-3 : tie.Need-mul-extent-at-3
-mul-extent-at-3 c = search needs
+mul-extent-at-3 c = search (needs, ends (c .before .before))
 
 shared-slice-copy-out-extent-at-3 : tie.Need-shared-slice-copy-out-extent-at-3
-shared-slice-copy-out-extent-at-3 c = search needs
+shared-slice-copy-out-extent-at-3 c = search (needs, ends (c .before .before))
 
 add-extent-at-2 : tie.Need-add-extent-at-2
-add-extent-at-2 c = search needs
+add-extent-at-2 c = search (needs, ends (c .before .before .before))
 
 mul-extent-at-4 : tie.Need-mul-extent-at-4
-mul-extent-at-4 c = search needs
+mul-extent-at-4 c = search (needs, ends (c .before .before .before))
 
 shared-slice-copy-out-extent-at-4 : tie.Need-shared-slice-copy-out-extent-at-4
-shared-slice-copy-out-extent-at-4 c = search needs
+shared-slice-copy-out-extent-at-4 c = search (needs, ends (c .before .before .before))
 
 extent-at-requires : tie.Need-extent-at-requires
 extent-at-requires c κs = search needs

@@ -60,16 +60,16 @@ one-each s = let a = s .args in cuts-long (corners (a .count) (a .xs .now) (a .y
 
 -- the cut of segment k is done
 stepped : (c : tie.After-touched Inv-loop μ-loop) → let a = start (looped c) .args in
-    Done (cutsOf (a .xs .now) (a .ys .now) (a .count) (a .path .now) (a .columns) (a .row)) (looped c .before .segment-count .result) (c .touched .result) (suc (looped c .loop .k))
+    Done (cutsOf (a .xs .now) (a .ys .now) (a .count) (a .path .now) (a .columns) (a .row)) (looped c .before .count .result) (c .touched .result) (suc (looped c .loop .k))
 stepped c =
     let i = looped c .loop in
     done-step (i .inv) (c .before .before .loop-test .taken) (c .touched .ensures ∙ ap (touched (i .t)) (c .before .cut-at .ensures .0))
 
-segment-count-requires : tie.Need-segment-count-requires Inv-loop μ-loop
-segment-count-requires c κs = search needs
+count-requires : tie.Need-count-requires Inv-loop μ-loop
+count-requires c κs = search needs
 
 loop-holds : tie.Need-loop-holds Inv-loop μ-loop
-loop-holds c = record { within = omega arith; all = c .segment-count .ensures ∙ sym (one-each (c .before)); same = refl }
+loop-holds c = record { within = omega arith; all = c .count .ensures ∙ sym (one-each (c .before)); same = refl }
 
 cut-at-requires : tie.Need-cut-at-requires Inv-loop μ-loop
 cut-at-requires c κs = let s = start (c .before) in (omega (arith, c .before .loop .inv .all, one-each s), s .pre)
@@ -101,7 +101,7 @@ first-touches-spec =
     (tie.spec
     Inv-loop
     μ-loop
-    segment-count-requires
+    count-requires
     loop-holds
     cut-at-requires
     touched-requires

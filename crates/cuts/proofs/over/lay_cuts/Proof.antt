@@ -76,13 +76,13 @@ one-each s = let a = s .args in cuts-long (corners (a .count) (a .xs .now) (a .y
 in-raster : (c : tie.After-cut-at Inv-loop μ-loop) → Below rasterMax (c .cut-at .result)
 in-raster c = below-more (start (looped c) .pre .few) (c .cut-at .ensures .1)
 
-segment-count-requires : tie.Need-segment-count-requires Inv-loop μ-loop
-segment-count-requires c κs = search needs
+count-requires : tie.Need-count-requires Inv-loop μ-loop
+count-requires c κs = search needs
 
 loop-holds : tie.Need-loop-holds Inv-loop μ-loop
 loop-holds c = record {
   within = omega arith;
-  all = c .segment-count .ensures ∙ sym (one-each (c .before .before));
+  all = c .count .ensures ∙ sym (one-each (c .before .before));
   as-long = refl;
   laid = laid-none (c .before .before .args .bytes .now);
   bounded = refl;
@@ -130,7 +130,7 @@ lay-cuts-spec =
     (tie.spec
     Inv-loop
     μ-loop
-    segment-count-requires
+    count-requires
     loop-holds
     cut-at-requires
     lay-cut-requires

@@ -4,8 +4,8 @@ use Rattle.stroke.proofs.Segments.{points-long, segments-few, segments-some}
 use mathlib.Core.Path.{sym, _∙_}
 use native.Mathlib.Omega.{arith}
 use borrow.Author.Needs.{needs}
-use Rattle.cuts.proofs.cut.segment_count.Statement.{statement}
-use Rattle.cuts.proofs.cut.segment_count.Tie as tie
+use Rattle.segments.proofs.count.Statement.{statement}
+use Rattle.segments.proofs.count.Tie as tie
 
 returns : tie.Need-returns
 returns c = let n = points-long (c .before .args .path .now) in sym (segments-few (pathPoints (c .before .args .path .now)) (omega arith) ∙ n)
@@ -16,5 +16,5 @@ sub-result c = search needs
 returns-2 : tie.Need-returns-2
 returns-2 c = let n = points-long (c .before .args .path .now) in let s = segments-some (pathPoints (c .before .args .path .now)) (omega arith) in omega arith
 
-pub segment-count-spec : {M : Type 1} → statement M
-segment-count-spec = tie.close (tie.spec returns sub-result returns-2)
+pub count-spec : {M : Type 1} → statement M
+count-spec = tie.close (tie.spec returns sub-result returns-2)
