@@ -13,7 +13,7 @@ use lib.Bits.{bitOr, or-zero-r}
 use lib.Dec.{ltb}
 use lib.ListN.{length, getD, set, replicate, length-set, length-replicate, getD-replicate, List·getD-eq-default}
 use lib.Seq.{ext-getD, getD-set-same, getD-set-other}
-use Rattle.bits.specs.Bits.{bitsFrom, bytesFrom, packed, packedLength, bitAt, laidOver, blackened}
+use Rattle.bits.specs.Bits.{bitsFrom, bytesFrom, packed, bitAt, laidOver, blackened}
 use Rattle.bits.proofs.Bytes.{bits-ext, clear-bits, getD-bytes, packed-at, bytes-black, bit-clear}
 use Rattle.bits.proofs.Over.{or-assoc, or-byte, over-length, over-at, over-black}
 
@@ -21,11 +21,11 @@ use Rattle.bits.proofs.Over.{or-assoc, or-byte, over-length, over-at, o
 pub blackened-length : (f : ℕ → Bool) (b : List ℕ) → length (blackened f b) ≡ length b
 blackened-length f b = over-length b (bytesFrom f 0 (length b))
 
-blackened-at : (f : ℕ → Bool) (b : List ℕ) (k : ℕ) → k < length b → getD (blackened f b) k 0 ≡ bitOr (getD b k 0) (bitsFrom f (8 * k) 8 0)
+pub blackened-at : (f : ℕ → Bool) (b : List ℕ) (k : ℕ) → k < length b → getD (blackened f b) k 0 ≡ bitOr (getD b k 0) (bitsFrom f (8 * k) 8 0)
 blackened-at f b k h = over-at b (bytesFrom f 0 (length b)) k h ∙ ap (bitOr (getD b k 0)) (rw zero-add at (getD-bytes f (length b) k 0 h))
 
 -- bytes that are so, each of them, are those
-same-bytes : (f : ℕ → Bool) (b c : List ℕ) → length c ≡ length b → ((k : ℕ) → k < length b → getD c k 0 ≡ bitOr (getD b k 0) (bitsFrom f (8 * k) 8 0)) → c ≡ blackened f b
+pub same-bytes : (f : ℕ → Bool) (b c : List ℕ) → length c ≡ length b → ((k : ℕ) → k < length b → getD c k 0 ≡ bitOr (getD b k 0) (bitsFrom f (8 * k) 8 0)) → c ≡ blackened f b
 same-bytes f b c l e = ext-getD 0 c (blackened f b) (l ∙ sym (blackened-length f b)) (λ k h. let i : k < length b = omega arith in e k i ∙ sym (blackened-at f b k i))
 
 -- ---- which columns

@@ -5,6 +5,7 @@
 --   Blackened  columns laid over bytes: one byte of them, and one lot after the other
 --   Masks      the byte of a span
 --   SpanBytes  a span from its first byte to its last
+--   Shifted    columns laid over the bytes from one of them on
 --   Theorems   which columns are black by the bytes
 pub mod Tests
 pub mod Bytes
@@ -12,4 +13,5 @@ pub mod Over
 pub mod Blackened
 pub mod Masks
 pub mod SpanBytes
+pub mod Shifted
 pub mod Theorems

@@ -1,16 +1,16 @@
 -- A span laid over bytes: the columns that its first byte has, those of whole bytes, and those that its last byte has, one after the other.
-use Prim.Native.Nat.{ℕ, _+_, _-_, _*_, _/_, _≤_, _<_, max}
+use Prim.Native.Nat.{ℕ, _+_, _-_, _*_, _/_, _%_, _≤_, _<_, min, max}
 use native.Mathlib.Omega.{arith}
 use native.Mathlib.Decide.{decLe, decLt}
-use mathlib.Core.Path.{_≡_, refl, sym, ap, _∙_}
+use mathlib.Core.Path.{_≡_, refl, sym, ap, ap₂, _∙_}
 use mathlib.Core.Logic.{inl, inr}
-use mathlib.Core.Bool.{Bool, true, false, _&&_, _||_}
+use mathlib.Core.Bool.{Bool, true, false, _||_}
 use mathlib.Core.List.{List}
 use borrow.Author.Tests.{eqb-true, eq-eqb, ne-eqb}
 use lib.Bits.{bitOr}
 use lib.Dec.{eqb}
 use lib.ListN.{length, getD, set}
-use Rattle.integers.proofs.Tests.{clash, and-both, and-true, false-and, same-test}
+use Rattle.integers.proofs.Tests.{clash, same-test}
 use Rattle.bits.specs.Bits.{bitsFrom, span, blackened}
 use Rattle.bits.proofs.Tests.{one-of, first-of, second-of, in-span, is-in-span}
 use Rattle.bits.proofs.Bytes.{bits-ext}
@@ -21,25 +21,24 @@ pub span-empty : (left end : ℕ) (b : List ℕ) → end ≤ left → b ≡ blac
 span-empty left end b h = blackened-none (span left end) b
     (λ x l. same-test (span left end x) false (λ q. absurd (omega (arith, in-span left end x q))) (λ q. absurd (clash q refl)))
 
--- the columns that byte k has of the span
-abbrev pub inByte : ℕ → ℕ → ℕ → ℕ → Bool
-inByte k left end x = eqb (x / 8) k && span left end x
-
 -- ---- one byte
 in-byte : (k b : ℕ) → b < 8 → eqb ((8 * k + b) / 8) k ≡ true
 in-byte k b h = eq-eqb ((8 * k + b) / 8) k (omega arith)
 
--- no other byte has one of them
-out-of-byte : (k left end x : ℕ) → ¬ (x / 8 ≡ k) → inByte k left end x ≡ false
-out-of-byte k left end x h = sym (false-and (eqb (x / 8) k) (span left end x) (ne-eqb (x / 8) k h))
+-- some columns of byte k, which no other byte has
+module _ (k l e : ℕ) (few : e ≤ 8) where
+  abbrev part : ℕ → Bool
+  part = span (8 * k + l) (8 * k + e)
 
-pub byte-laid : (left end k : ℕ) (b : List ℕ) {v : ℕ} → v ≡ bitsFrom (span left end) (8 * k) 8 0 → set b k (bitOr (getD b k 0) v) ≡ blackened (inByte k left end) b
-byte-laid left end k b e = blackened-byte (inByte k left end) b k (out-of-byte k left end)
-    (e ∙ bits-ext (span left end) (inByte k left end) 8 (8 * k) (8 * k) 0 (λ c l. ap (λ (t : Bool). t && span left end (8 * k + c)) (sym (in-byte k c l))))
+  out-of-byte : (x : ℕ) → ¬ (x / 8 ≡ k) → part x ≡ false
+  out-of-byte x h = same-test (part x) false (λ q. let s = in-span (8 * k + l) (8 * k + e) x q in absurd (h (omega (arith, s .0, s .1, few)))) (λ q. absurd (clash q refl))
 
--- a byte that is not there
-pub byte-past : (left end k : ℕ) (b : List ℕ) → length b ≤ k → b ≡ blackened (inByte k left end) b
-byte-past left end k b h = blackened-none (inByte k left end) b (λ x l. out-of-byte k left end x (λ e. omega arith))
+  pub byte-laid : (b : List ℕ) {v : ℕ} → v ≡ bitsFrom part (8 * k) 8 0 → set b k (bitOr (getD b k 0) v) ≡ blackened part b
+  byte-laid b v = blackened-byte part b k out-of-byte v
+
+  -- a byte that is not there
+  pub byte-past : (b : List ℕ) → length b ≤ k → b ≡ blackened part b
+  byte-past b h = blackened-none part b (λ x m. out-of-byte x (λ q. omega (arith, h, m, q)))
 
 -- ---- whole bytes, one more at a time
 -- all eight columns of byte k
@@ -74,39 +73,53 @@ bytes-end first k last b h l = blackened-ext (span (8 * first) (8 * k)) (span (8
 
 -- ---- the span by its bytes
 module _ (left end : ℕ) (h : left < end) where
+  abbrev first : ℕ
+  first = left / 8
+
+  abbrev last : ℕ
+  last = (end - 1) / 8
+
+  abbrev from-left : ℕ
+  from-left = 8 * first + left % 8
+
+  abbrev to-end : ℕ
+  to-end = 8 * last + ((end - 1) % 8 + 1)
+
+  -- as far as the first byte goes
+  abbrev to-next : ℕ
+  to-next = 8 * first + min (end - 8 * first) 8
+
   -- all in one byte
-  pub span-one : (b : List ℕ) → (end - 1) / 8 ≤ left / 8 → blackened (inByte (left / 8) left end) b ≡ blackened (span left end) b
-  span-one b l = blackened-ext (inByte (left / 8) left end) (span left end) b (λ x m. same-test _ _
-      (λ q. and-both (eqb (x / 8) (left / 8)) (span left end x) q .1)
-      (λ q. let s = in-span left end x q in and-true _ _ (eq-eqb (x / 8) (left / 8) (omega arith)) q))
+  pub span-one : (b : List ℕ) → last ≤ first → blackened (span from-left to-next) b ≡ blackened (span left end) b
+  span-one b l = ap₂ (λ (i j : ℕ). blackened (span i j) b) (omega arith) (omega (arith, l, h))
 
   abbrev head : ℕ → Bool
-  head x = inByte (left / 8) left end x
+  head x = span from-left to-next x
 
   abbrev middle : ℕ → Bool
-  middle x = span (8 * (left / 8 + 1)) (8 * ((end - 1) / 8)) x
+  middle x = span (8 * (first + 1)) (8 * last) x
 
   abbrev tail : ℕ → Bool
-  tail x = inByte ((end - 1) / 8) left end x
+  tail x = span (8 * last + 0) to-end x
 
   -- a first byte, whole bytes and a last byte
-  by-bytes : (x : ℕ) → left / 8 < (end - 1) / 8 → ((head x || middle x) || tail x) ≡ span left end x
+  by-bytes : (x : ℕ) → first < last → ((head x || middle x) || tail x) ≡ span left end x
   by-bytes x l = same-test _ _
       (λ q. elim (one-of (head x || middle x) (tail x) q) [
         | inl p ↦ elim (one-of (head x) (middle x) p) [
-          | inl r ↦ and-both (eqb (x / 8) (left / 8)) (span left end x) r .1
-          | inr r ↦ (let s = in-span (8 * (left / 8 + 1)) (8 * ((end - 1) / 8)) x r in is-in-span left end x (omega (arith, s .0)) (omega (arith, s .1)))
+          | inl r ↦ (let s = in-span from-left to-next x r in is-in-span left end x (omega (arith, s .0)) (omega (arith, s .1, l)))
+          | inr r ↦ (let s = in-span (8 * (first + 1)) (8 * last) x r in is-in-span left end x (omega (arith, s .0)) (omega (arith, s .1)))
         ]
-        | inr p ↦ and-both (eqb (x / 8) ((end - 1) / 8)) (span left end x) p .1
+        | inr p ↦ (let s = in-span (8 * last + 0) to-end x p in is-in-span left end x (omega (arith, s .0, l)) (omega (arith, s .1, h)))
       ])
-      (λ q. let s = in-span left end x q in elim (decLe (x / 8) (left / 8)) [
-        | yes a ↦ first-of (head x || middle x) (tail x) (first-of (head x) (middle x) (and-true _ _ (eq-eqb (x / 8) (left / 8) (omega (arith, s .0))) q))
-        | no a ↦ elim (decLt (x / 8) ((end - 1) / 8)) [
-          | yes c ↦ first-of (head x || middle x) (tail x) (second-of (head x) (middle x) (is-in-span (8 * (left / 8 + 1)) (8 * ((end - 1) / 8)) x (omega arith) (omega arith)))
-          | no c ↦ second-of (head x || middle x) (tail x) (and-true _ _ (eq-eqb (x / 8) ((end - 1) / 8) (omega (arith, s .1))) q)
+      (λ q. let s = in-span left end x q in elim (decLe (x / 8) first) [
+        | yes a ↦ first-of (head x || middle x) (tail x) (first-of (head x) (middle x) (is-in-span from-left to-next x (omega (arith, s .0)) (omega (arith, a, l))))
+        | no a ↦ elim (decLt (x / 8) last) [
+          | yes c ↦ first-of (head x || middle x) (tail x) (second-of (head x) (middle x) (is-in-span (8 * (first + 1)) (8 * last) x (omega (arith, a)) (omega (arith, c))))
+          | no c ↦ second-of (head x || middle x) (tail x) (is-in-span (8 * last + 0) to-end x (omega (arith, c)) (omega (arith, s .1, h)))
         ]
       ])
 
-  pub span-several : (b : List ℕ) → left / 8 < (end - 1) / 8 → blackened tail (blackened middle (blackened head b)) ≡ blackened (span left end) b
+  pub span-several : (b : List ℕ) → first < last → blackened tail (blackened middle (blackened head b)) ≡ blackened (span left end) b
   span-several b l = ap (blackened tail) (blackened-twice head middle (λ x. head x || middle x) b (λ x. refl))
       ∙ blackened-twice (λ x. head x || middle x) tail (span left end) b (λ x. by-bytes x l)

@@ -1,6 +1,7 @@
 // A row of pixels as bits: a byte for each eight columns, the leftmost pixel in the highest bit,
 // black 1.
 ghost use mathlib.Core.Path.{_≡_};
+ghost use Prim.Native.Nat.{_+_, _*_};
 ghost use Rattle.bits.specs.Bits.{packedLength, bitAt, span, blackened};
 
 mod spans;
@@ -30,5 +31,14 @@ pub fn lay_span(bytes: &mut [u8], left: usize, end: usize)
 {
     if left < end {
         spans::lay_some(bytes, left, end);
+    }
+}
+
+// The same over the bytes from byte `at` on.
+pub fn lay_span_from(bytes: &mut [u8], at: usize, left: usize, end: usize)
+    ensures { λ _. ⌜ now (bytes .exit) ≡ blackened (span (8 * at + left) (8 * at + end)) (now (bytes .entry)) ⌝ }
+{
+    if at < bytes.len() {
+        lay_span(&mut bytes[at..], left, end);
     }
 }

@@ -1,14 +1,30 @@
--- The byte is or-ed with the span's, and left where it is not one of the bytes.
+-- An entry of the table less another is the byte of these columns, as `ones-byte` says; it is or-ed with the byte, where that is one of the bytes.
+use Prim.Native.Nat.{_+_, _-_, _*_, _≤_}
+use mathlib.Core.Path.{_≡_}
+use native.Mathlib.Omega.{arith}
+use lib.ListN.{getD}
+use Rattle.bits.specs.Bits.{bitsFrom, span}
+use Rattle.bits.proofs.Masks.{ones, ones-byte}
 use Rattle.bits.proofs.SpanBytes.{byte-laid, byte-past}
 use borrow.Author.Needs.{needs}
 use Rattle.bits.proofs.spans.lay_byte.Statement.{statement}
 use Rattle.bits.proofs.spans.lay_byte.Tie as tie
 
-mul-span-byte : tie.Need-mul-span-byte
-mul-span-byte c = search needs
+-- the entries of the table that are read make the byte
+made : (s : tie.Start) → let a = s .args in
+    (getD ones (a .e) 0 ≤ getD ones (a .l) 0) × (getD ones (a .l) 0 - getD ones (a .e) 0 ≡ bitsFrom (span (8 * a .k + a .l) (8 * a .k + a .e)) (8 * a .k) 8 0)
+made s =
+    let a = s .args in
+    ones-byte (8 * a .k + a .l) (8 * a .k + a .e) (8 * a .k) {l = a .l} {e = a .e} (omega (arith, s .pre .0)) (omega (arith, s .pre .0, s .pre .1)) (omega (arith, s .pre .1))
 
-span-byte-requires : tie.Need-span-byte-requires
-span-byte-requires c κs = search needs
+array-read-bytes : tie.Need-array-read-bytes
+array-read-bytes c = search needs
+
+array-read-bytes-2 : tie.Need-array-read-bytes-2
+array-read-bytes-2 c = search needs
+
+sub-bytes : tie.Need-sub-bytes
+sub-bytes c = made (c .before) .0
 
 slice-read-bytes : tie.Need-slice-read-bytes
 slice-read-bytes c = search needs
@@ -21,22 +37,13 @@ same-length c = search needs
 
 returns : tie.Need-returns
 returns c =
-    let a = c .before .before .before .before .args in
-    byte-laid (a .left) (a .end) (a .k) (a .bytes .now) (c .before .span-byte .ensures)
+    let s = c .before .before in
+    byte-laid (s .args .k) (s .args .l) (s .args .e) (s .pre .1) (s .args .bytes .now) (made s .1)
 
 returns-2 : tie.Need-returns-2
 returns-2 c =
-    let a = c .before .before .args in
-    byte-past (a .left) (a .end) (a .k) (a .bytes .now) (c .if1 .left)
+    let s = c .before in
+    byte-past (s .args .k) (s .args .l) (s .args .e) (s .pre .1) (s .args .bytes .now) (c .if1 .left)
 
 pub lay-byte-spec : {M : Type 1} → statement M
-lay-byte-spec =
-    tie.close
-    (tie.spec
-    mul-span-byte
-    span-byte-requires
-    slice-read-bytes
-    slice-write-bytes
-    same-length
-    returns
-    returns-2)
+lay-byte-spec = tie.close (tie.spec array-read-bytes array-read-bytes-2 sub-bytes slice-read-bytes slice-write-bytes same-length returns returns-2)

@@ -1,11 +1,10 @@
 -- The bytes passed are black, and no other column is laid over.
 use Prim.Native.Nat.{_-_, _*_, _≤_, min, max}
-use mathlib.Core.Path.{_≡_, sym, _∙_}
+use mathlib.Core.Path.{_≡_, _∙_}
 use native.Mathlib.Omega.{arith}
-use lib.ListN.{length, length-set}
+use lib.ListN.{length}
 use borrow.Author.Needs.{needs}
 use Rattle.bits.specs.Bits.{span, blackened}
-use Rattle.bits.proofs.Blackened.{blackened-length}
 use Rattle.bits.proofs.SpanBytes.{span-empty, bytes-more, bytes-end}
 use Rattle.bits.proofs.spans.lay_bytes.Statement.{statement}
 use Rattle.bits.proofs.spans.lay_bytes.Tie as tie

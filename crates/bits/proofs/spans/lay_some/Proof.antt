@@ -1,21 +1,33 @@
 -- The span by its bytes: all in one, or a first, whole ones and a last.
-use mathlib.Core.Path.{ap, _∙_}
-use Prim.Native.Nat.{ℕ}
-use Rattle.bits.specs.Bits.{blackened}
+use Prim.Native.Nat.{ℕ, _+_, _-_, _*_, _/_, _%_, min}
+use mathlib.Core.Path.{_≡_, ap, _∙_}
+use Rattle.bits.specs.Bits.{span, blackened}
 use Rattle.bits.proofs.SpanBytes.{span-one, span-several}
 use borrow.Author.Needs.{needs}
 use Rattle.bits.proofs.spans.lay_some.Statement.{statement}
 use Rattle.bits.proofs.spans.lay_some.Tie as tie
 
--- where the first byte is laid: the call as it was; and so where more bytes follow
+-- where the first byte is laid: the call as it was, and as far as the byte goes
 abbrev start : tie.After-lay-byte → tie.Start
-start c = c .before .before .before
+start c = c .before .before .before .before
 
-abbrev first-laid : tie.Then1 → tie.After-lay-byte
-first-laid c = c .before .before .before
+first-laid : (c : tie.After-lay-byte) → let a = start c .args in
+    c .lay-byte .last .0 ≡ blackened (span (8 * (a .left / 8) + a .left % 8) (8 * (a .left / 8) + min (a .end - 8 * (a .left / 8)) 8)) (a .bytes .now)
+first-laid c =
+    let a = start c .args in
+    c .lay-byte .ensures ∙ ap (λ (m : ℕ). blackened (span (8 * (a .left / 8) + a .left % 8) (8 * (a .left / 8) + m)) (a .bytes .now)) (c .before .min-usize .ensures)
 
 sub-last : tie.Need-sub-last
 sub-last c = search needs
+
+mul-min-usize : tie.Need-mul-min-usize
+mul-min-usize c = search needs
+
+sub-min-usize : tie.Need-sub-min-usize
+sub-min-usize c = search needs
+
+min-usize-requires : tie.Need-min-usize-requires
+min-usize-requires c κs = search needs
 
 lay-byte-requires : tie.Need-lay-byte-requires
 lay-byte-requires c κs = search needs
@@ -25,6 +37,12 @@ add-lay-bytes c = search needs
 
 lay-bytes-requires : tie.Need-lay-bytes-requires
 lay-bytes-requires c κs = search needs
+
+sub-lay-byte : tie.Need-sub-lay-byte
+sub-lay-byte c = search needs
+
+add-lay-byte : tie.Need-add-lay-byte
+add-lay-byte c = search needs
 
 lay-byte-requires-2 : tie.Need-lay-byte-requires-2
 lay-byte-requires-2 c κs = search needs
@@ -36,10 +54,11 @@ returns : tie.Need-returns
 returns c =
     let ended = c .before .before in
     let filled = ended .before .before .before .before in
-    let began = first-laid (filled .before .before) in
-    let a = start began .args in
-    ended .lay-byte2 .ensures ∙ ap (blackened _) (filled .lay-bytes .ensures ∙ ap (blackened _) (began .lay-byte .ensures))
-    ∙ span-several (a .left) (a .end) (start began .pre) (a .bytes .now) (filled .before .before .if1 .taken)
+    let several = filled .before .before in
+    let began = several .before .before .before in
+    let s = start began in
+    ended .lay-byte2 .ensures ∙ ap (blackened _) (filled .lay-bytes .ensures ∙ ap (blackened _) (first-laid began))
+    ∙ span-several (s .args .left) (s .args .end) (s .pre) (s .args .bytes .now) (several .if1 .taken)
 
 same-length-2 : tie.Need-same-length-2
 same-length-2 c = search needs
@@ -47,17 +66,22 @@ same-length-2 c = search needs
 returns-2 : tie.Need-returns-2
 returns-2 c =
     let began = c .before .before .before in
-    let a = start began .args in
-    began .lay-byte .ensures ∙ span-one (a .left) (a .end) (start began .pre) (a .bytes .now) (c .if1 .left)
+    let s = start began in
+    first-laid began ∙ span-one (s .args .left) (s .args .end) (s .pre) (s .args .bytes .now) (c .if1 .left)
 
 pub lay-some-spec : {M : Type 1} → statement M
 lay-some-spec =
     tie.close
     (tie.spec
     sub-last
+    mul-min-usize
+    sub-min-usize
+    min-usize-requires
     lay-byte-requires
     add-lay-bytes
     lay-bytes-requires
+    sub-lay-byte
+    add-lay-byte
     lay-byte-requires-2
     same-length
     returns
