@@ -1,9 +1,11 @@
 // An edge of an outline, carried from row to row.
 //
 // Source document 001, figure 14: where the edge meets the row is kept as a whole column and a
-// remainder, and one row up is two sums and a test. An edge costs two divisions, and a row none.
+// remainder, and one row up is two sums and a test. An edge costs two divisions, a steep one only
+// one, and a row none.
 ghost use mathlib.Core.Path.{_≡_};
 ghost use mathlib.Core.Bool.{_&&_};
+ghost use Rattle.integers.specs.Floor.{floorDiv};
 ghost use Rattle.edge.specs.Edge.{nowhere, isSmall, fair, near, raised, placed};
 
 // The edge meets the row at column + rest / by pixels, and each row up adds step + more / by.
@@ -84,7 +86,24 @@ fn all_near(px: i64, py: i64, qx: i64, qy: i64, h: i64) -> bool
     near(px) && (near(py) && (near(qx) && (near(qy) && near(h))))
 }
 
-// The edge from P up to Q, in the row at the height h. The only divisions: two for each edge.
+// The whole columns by which an edge that goes dx across and dy up moves in a row. An edge that is
+// steep, or upright, moves by less than one: by 0 or, to the left, by -1, with no division.
+fn slope(dx: i64, dy: i64) -> i64
+    ensures { λ r. ⌜ r ≡ floorDiv dx dy ⌝ }
+{
+    if dx < 0 {
+        if -1 - dx < dy {
+            return -1;
+        }
+    } else {
+        if dx < dy {
+            return 0;
+        }
+    }
+    integers::floor_div(dx, dy)
+}
+
+// The edge from P up to Q, in the row at the height h. The only divisions: at most two for each edge.
 pub fn place(px: i64, py: i64, qx: i64, qy: i64, h: i64) -> Edge
     ensures { λ r. ⌜ r ≡ placed px py qx qy h ⌝ }
 {
@@ -96,7 +115,7 @@ pub fn place(px: i64, py: i64, qx: i64, qy: i64, h: i64) -> Edge
     let by = 16 * dy;
     let num = px * dy + (h - py) * dx;
     let column = integers::floor_div(num, by);
-    let step = integers::floor_div(dx, dy);
+    let step = slope(dx, dy);
     Edge {
         column: column,
         rest: num - by * column,

@@ -60,15 +60,15 @@ module _ (c : tie.Else1) where
   line = add (mul px dy tt) (mul up dx tt) tt
 
 -- ---- the two quotients
-abbrev start : tie.After-floor-div2 → tie.Else1
+abbrev start : tie.After-slope → tie.Else1
 start c = c .before .before
 
-column : (c : tie.After-floor-div2) → let a = given (start c) .args in
+column : (c : tie.After-slope) → let a = given (start c) .args in
     Is w64 (floorDiv (numerator (a .px) (a .py) (a .qx) (a .qy) (a .h)) (pos 16 *ℤ (a .qy -ℤ a .py))) (bits (c .before .floor-div .result)) (263168 * 526336 + 526336 * 526336)
 column c = floor (line (start c)) (by (start c)) (c .before .floor-div .ensures)
 
-step : (c : tie.After-floor-div2) → let a = given (start c) .args in Is w64 (floorDiv (a .qx -ℤ a .px) (a .qy -ℤ a .py)) (bits (c .floor-div2 .result)) 526336
-step c = floor (dx (start c)) (dy (start c)) (c .floor-div2 .ensures)
+step : (c : tie.After-slope) → let a = given (start c) .args in Is w64 (floorDiv (a .qx -ℤ a .px) (a .qy -ℤ a .py)) (bits (c .slope .result)) 526336
+step c = floor (dx (start c)) (dy (start c)) (c .slope .ensures)
 
 -- ---- the needs
 all-near-requires : tie.Need-all-near-requires
@@ -107,8 +107,8 @@ add-num c = add-fits (mul (px c) (dy c) tt) (mul (up c) (dx c) tt) tt
 floor-div-requires : tie.Need-floor-div-requires
 floor-div-requires c κs = search needs
 
-floor-div-requires-2 : tie.Need-floor-div-requires-2
-floor-div-requires-2 c κs = search needs
+slope-requires : tie.Need-slope-requires
+slope-requires c κs = search needs
 
 mul-t14 : tie.Need-mul-t14
 mul-t14 c = mul-fits (by (start c)) (column c) tt
@@ -147,7 +147,7 @@ place-spec =
     mul-num-2
     add-num
     floor-div-requires
-    floor-div-requires-2
+    slope-requires
     mul-t14
     sub-t16
     mul-t15
