@@ -47,7 +47,7 @@ in-order ax ay bx by = go (leZ ay by) refl
     go true l = forward (le-true l)
     go false l = backward (lt-le by ay (le-false l))
 
-range-abs : (z : ℤ) → inRange z ≡ true → Abs z 262144
+pub range-abs : (z : ℤ) → inRange z ≡ true → Abs z 262144
 unfolding inRange
 range-abs z r = let p = and-both _ _ r in abs-iff z 262144 .1 (le-true (p .0), le-true (p .1))
 

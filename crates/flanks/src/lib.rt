@@ -12,10 +12,11 @@ use edge::Edge;
 use integers::min_usize;
 use ties::below;
 ghost use mathlib.Core.Path.{_≡_};
+ghost use mathlib.Core.Bool.{true, false};
 ghost use Prim.Native.Nat.{_^_};
 ghost use lib.IntN.{pos, _*ℤ_};
 ghost use Rattle.integers.specs.Bound.{Abs};
-ghost use Rattle.flanks.specs.Flanks.{ordered, heldOf, idle, nowhere, begun, insideOf, risen, countTo, cutAt};
+ghost use Rattle.flanks.specs.Flanks.{ordered, heldOf, idle, nowhere, begun, insideOf, climbed, risen, countTo, cutAt};
 
 mod turn;
 mod walk;
@@ -127,14 +128,13 @@ pub fn begin<'a>(
     let depth = 8 * walk::at(ys, 0);
     let low = ends.ly as i64 + depth;
     let high = ends.uy as i64 - depth;
-    let left = walk::tangent(xs, ys, n, -u, -v);
-    let right = walk::tangent(xs, ys, n, u, v);
+    let tangents = walk::tangents(xs, ys, n, u, v);
     Flanks {
         ends: ends,
         low: low,
         high: high,
-        left: idle(low, left),
-        right: idle(low, right),
+        left: idle(low, tangents.left),
+        right: idle(low, tangents.right),
     }
 }
 
@@ -155,16 +155,19 @@ fn inside(low: i64, high: i64, row: u16) -> bool
     !below(h, low) && below(h, high)
 }
 
-// The flanks in the given row: their first, or one row up from the last. They wait where it lies
-// below the sweep.
-pub fn rise<'a>(f: Flanks, xs: &'a [i8], ys: &'a [i8], count: usize, row: u16) -> Flanks
-    ensures { λ r. ⌜ r ≡ risen count (now (xs .entry)) (now (ys .entry)) f row ⌝ }
+// Both flanks to the height h: each on the same edge, or on the next one.
+fn turning<'a>(f: Flanks, xs: &'a [i8], ys: &'a [i8], count: usize, h: i64) -> Flanks
+    requires { ⌜ Abs h (2 ^ 32) ⌝ }
+    ensures { λ r. ⌜ (let n = heldOf count (now (xs .entry)) (now (ys .entry)) in
+        r ≡ record {
+          ends = f .ends;
+          low = f .low;
+          high = f .high;
+          left = climbed (f .left) (now (xs .entry)) (now (ys .entry)) n true (f .ends) h;
+          right = climbed (f .right) (now (xs .entry)) (now (ys .entry)) n false (f .ends) h;
+        }) ⌝ }
 {
-    if !inside(f.low, f.high, row) {
-        return f;
-    }
     let n = held(count, xs, ys);
-    let h = height(row);
     let ends = f.ends;
     let left = turn::climb(f.left, xs, ys, n, true, ends, h);
     let right = turn::climb(f.right, xs, ys, n, false, ends, h);
@@ -177,8 +180,31 @@ pub fn rise<'a>(f: Flanks, xs: &'a [i8], ys: &'a [i8], count: usize, row: u16) -
     }
 }
 
+// The flanks in the given row: their first, or one row up from the last. They wait where it lies
+// below the sweep. In most rows both stay on their edges, and that case alone is small enough to be
+// inlined where rows are looped over.
+pub fn rise<'a>(f: Flanks, xs: &'a [i8], ys: &'a [i8], count: usize, row: u16) -> Flanks
+    ensures { λ r. ⌜ r ≡ risen count (now (xs .entry)) (now (ys .entry)) f row ⌝ }
+{
+    if !inside(f.low, f.high, row) {
+        return f;
+    }
+    let h = height(row);
+    if below(h, f.left.top) && below(h, f.right.top) {
+        let ends = f.ends;
+        return Flanks {
+            ends: ends,
+            low: f.low,
+            high: f.high,
+            left: turn::stay(f.left),
+            right: turn::stay(f.right),
+        };
+    }
+    turning(f, xs, ys, count, h)
+}
+
 // How many of the raster's columns lie up to column z.
-fn count_to(columns: u16, z: i64) -> u16
+pub fn count_to(columns: u16, z: i64) -> u16
     ensures { λ r. ⌜ r ≡ countTo columns z ⌝ }
 {
     if z < 0 {

@@ -9,6 +9,7 @@ use ties::below;
 ghost use mathlib.Core.Path.{_≡_};
 ghost use Rattle.integers.specs.Bound.{Abs};
 ghost use Prim.Native.Nat.{_^_};
+ghost use Rattle.edge.specs.Edge.{raised};
 ghost use Rattle.flanks.specs.Flanks.{onPen, turned, climbed};
 
 // On the pen's edge at the end (ex, ey) that the height h meets. The walk goes on from corner k.
@@ -77,6 +78,18 @@ fn turned<'a>(f: Flank, xs: &'a [i8], ys: &'a [i8], n: usize, left: bool, e: End
     on_pen(xs, ys, n, left, t, f.corner, ux, uy, h)
 }
 
+// One row up on the same edge.
+pub fn stay(f: Flank) -> Flank
+    ensures { λ r. ⌜ r ≡ record { edge = raised (f .edge); top = f .top; corner = f .corner; tangent = f .tangent } ⌝ }
+{
+    Flank {
+        edge: edge::raise(f.edge),
+        top: f.top,
+        corner: f.corner,
+        tangent: f.tangent,
+    }
+}
+
 // One row up, to the height h: on the same edge, or on the next one.
 pub fn climb<'a>(
     f: Flank,
@@ -91,12 +104,7 @@ pub fn climb<'a>(
     ensures { λ r. ⌜ r ≡ climbed f (now (xs .entry)) (now (ys .entry)) n left e h ⌝ }
 {
     if below(h, f.top) {
-        return Flank {
-            edge: edge::raise(f.edge),
-            top: f.top,
-            corner: f.corner,
-            tangent: f.tangent,
-        };
+        return stay(f);
     }
     turned(f, xs, ys, n, left, e, h)
 }

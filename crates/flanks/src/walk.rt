@@ -4,7 +4,7 @@ use ties::below;
 ghost use mathlib.Core.Path.{_≡_};
 ghost use Prim.Native.Nat.{_-_, _≤_, _^_};
 ghost use lib.ListN.{getD};
-ghost use lib.IntN.{pos};
+ghost use lib.IntN.{pos, negℤ};
 ghost use Rattle.integers.specs.Bound.{Abs};
 ghost use Rattle.flanks.specs.Walk.{placeOf, heightAt, walked, turnAt, tangentOf};
 
@@ -73,19 +73,38 @@ fn turn<'a>(xs: &'a [i8], ys: &'a [i8], u: i64, v: i64, i: usize) -> i64
     v * at(xs, i) - u * at(ys, i)
 }
 
-// The place, of n, that lies furthest to the right of the direction (u, v): the first of them.
-pub fn tangent<'a>(xs: &'a [i8], ys: &'a [i8], n: usize, u: i64, v: i64) -> usize
+// The first place that lies furthest to the left of a direction, and the first furthest to its right.
+pub struct Furthest {
+    pub left: usize,
+    pub right: usize,
+}
+
+// Those of n places, for the direction (u, v), in one look at each.
+pub fn tangents<'a>(xs: &'a [i8], ys: &'a [i8], n: usize, u: i64, v: i64) -> Furthest
     requires across { ⌜ Abs u (2 ^ 33) ⌝ }
     requires up { ⌜ Abs v (2 ^ 33) ⌝ }
-    ensures { λ r. ⌜ r ≡ tangentOf (now (xs .entry)) (now (ys .entry)) n u v ⌝ }
+    ensures left { λ r. ⌜ r .left ≡ tangentOf (now (xs .entry)) (now (ys .entry)) n (negℤ u) (negℤ v) ⌝ }
+    ensures right { λ r. ⌜ r .right ≡ tangentOf (now (xs .entry)) (now (ys .entry)) n u v ⌝ }
 {
-    let mut best = 0;
+    let mut least = turn(xs, ys, u, v, 0);
+    let mut most = least;
+    let mut left = 0;
+    let mut right = 0;
     let mut i = 1;
     while i < n {
-        if turn(xs, ys, u, v, best) < turn(xs, ys, u, v, i) {
-            best = i;
+        let t = turn(xs, ys, u, v, i);
+        if t < least {
+            least = t;
+            left = i;
+        }
+        if most < t {
+            most = t;
+            right = i;
         }
         i += 1;
     }
-    best
+    Furthest {
+        left: left,
+        right: right,
+    }
 }

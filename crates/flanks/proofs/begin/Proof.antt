@@ -11,7 +11,7 @@ use denote.Ref.{now}
 use borrow.Author.Needs.{needs}
 use Rattle.integers.proofs.Bound.{abs-le}
 use Rattle.integers.proofs.Machine.{Is, num, par, add, add-fits, sub, sub-fits, mul-fits, cast-fits, bound}
-use Rattle.integers.proofs.Words.{bits, _⊕_, _⊖_, _⊗_, opposite}
+use Rattle.integers.proofs.Words.{bits, _⊕_, _⊖_, _⊗_}
 use Rattle.flanks.specs.declared.Ends.{Ends}
 use Rattle.flanks.specs.declared.Flanks.{Flanks}
 use Rattle.flanks.specs.Walk.{tangentOf}
@@ -69,12 +69,6 @@ module _ (c : tie.After-struct-told) where
   v : Is w64 (ends .uy -ℤ ends .ly) (wide (ends .uy) ⊖ wide (ends .ly)) (2 ^ 32)
   v = sub (number32 uy-fits) (number32 ly-fits) tt
 
-  minus-u : Is w64 (negℤ (ends .ux -ℤ ends .lx)) (bits (pos 0) ⊖ (wide (ends .ux) ⊖ wide (ends .lx))) (2 ^ 32)
-  minus-u = opposite u tt
-
-  minus-v : Is w64 (negℤ (ends .uy -ℤ ends .ly)) (bits (pos 0) ⊖ (wide (ends .uy) ⊖ wide (ends .ly))) (2 ^ 32)
-  minus-v = opposite v tt
-
 -- ---- the places: the ends' numbers and the start, from each place
 abbrev told2 : tie.After-struct-told2 → tie.After-struct-told
 told2 c = c .before .before
@@ -116,23 +110,25 @@ high : (c : tie.After-at) → let t = told-at c in
 high c = sub (number32 (uy-fits (told-at c))) (depth c) tt
 
 -- ---- the corners that the segment runs along
-left-corner : (c : tie.After-tangent) → let t = told6 (c .before) in
+left-corner : (c : tie.After-tangents) → let t = told6 (c .before) in
     let a = start t .args in
-    c .tangent .result ≡ furthest (a .count) (now (a .xs)) (now (a .ys)) (negℤ (ends t .ux -ℤ ends t .lx)) (negℤ (ends t .uy -ℤ ends t .ly))
+    c .tangents .result .left ≡ furthest (a .count) (now (a .xs)) (now (a .ys)) (negℤ (ends t .ux -ℤ ends t .lx)) (negℤ (ends t .uy -ℤ ends t .ly))
 left-corner c =
     let t = told6 (c .before) in
     let a = start t .args in
-    c .tangent .ensures ∙ ap₂ (tangentOf (now (a .xs)) (now (a .ys)) _) (minus-u t .reads) (minus-v t .reads)
-    ∙ ap (λ (n : ℕ). tangentOf (now (a .xs)) (now (a .ys)) n (negℤ (ends t .ux -ℤ ends t .lx)) (negℤ (ends t .uy -ℤ ends t .ly))) (t .before .before .before .held .ensures)
+    let n = t .before .before .before .held in
+    c .tangents .ensures .0 ∙ ap₂ (tangentOf (now (a .xs)) (now (a .ys)) (n .result)) (ap negℤ (u t .reads)) (ap negℤ (v t .reads))
+    ∙ ap (λ (n : ℕ). tangentOf (now (a .xs)) (now (a .ys)) n (negℤ (ends t .ux -ℤ ends t .lx)) (negℤ (ends t .uy -ℤ ends t .ly))) (n .ensures)
 
-right-corner : (c : tie.After-tangent2) → let t = told6 (c .before .before) in
+right-corner : (c : tie.After-tangents) → let t = told6 (c .before) in
     let a = start t .args in
-    c .tangent2 .result ≡ furthest (a .count) (now (a .xs)) (now (a .ys)) (ends t .ux -ℤ ends t .lx) (ends t .uy -ℤ ends t .ly)
+    c .tangents .result .right ≡ furthest (a .count) (now (a .xs)) (now (a .ys)) (ends t .ux -ℤ ends t .lx) (ends t .uy -ℤ ends t .ly)
 right-corner c =
-    let t = told6 (c .before .before) in
+    let t = told6 (c .before) in
     let a = start t .args in
-    c .tangent2 .ensures ∙ ap₂ (tangentOf (now (a .xs)) (now (a .ys)) _) (u t .reads) (v t .reads)
-    ∙ ap (λ (n : ℕ). tangentOf (now (a .xs)) (now (a .ys)) n (ends t .ux -ℤ ends t .lx) (ends t .uy -ℤ ends t .ly)) (t .before .before .before .held .ensures)
+    let n = t .before .before .before .held in
+    c .tangents .ensures .1 ∙ ap₂ (tangentOf (now (a .xs)) (now (a .ys)) (n .result)) (u t .reads) (v t .reads)
+    ∙ ap (λ (n : ℕ). tangentOf (now (a .xs)) (now (a .ys)) n (ends t .ux -ℤ ends t .lx) (ends t .uy -ℤ ends t .ly)) (n .ensures)
 
 -- ---- the needs
 held-requires : tie.Need-held-requires
@@ -177,17 +173,8 @@ cast-high c = cast-fits (par {w = w32} (uy-fits (told6 c))) w64 tt
 sub-high : tie.Need-sub-high
 sub-high c = sub-fits (number32 (uy-fits (told6 c))) (depth (deep6 c)) tt
 
-sub-tangent : tie.Need-sub-tangent
-sub-tangent c = sub-fits (num (pos 0) tt) (u (told6 c)) tt
-
-sub-tangent-2 : tie.Need-sub-tangent-2
-sub-tangent-2 c = sub-fits (num (pos 0) tt) (v (told6 c)) tt
-
-tangent-requires : tie.Need-tangent-requires
-tangent-requires c κs = let t = told6 c in (abs-le (leb→le _ _ tt) (bound (minus-u t)), abs-le (leb→le _ _ tt) (bound (minus-v t)))
-
-tangent-requires-2 : tie.Need-tangent-requires-2
-tangent-requires-2 c κs = let t = told6 (c .before) in (abs-le (leb→le _ _ tt) (bound (u t)), abs-le (leb→le _ _ tt) (bound (v t)))
+tangents-requires : tie.Need-tangents-requires
+tangents-requires c κs = let t = told6 c in (abs-le (leb→le _ _ tt) (bound (u t)), abs-le (leb→le _ _ tt) (bound (v t)))
 
 idle-requires : tie.Need-idle-requires
 idle-requires c κs = search needs
@@ -197,13 +184,13 @@ idle-requires-2 c κs = search needs
 
 returns : tie.Need-returns
 returns c =
-    let second = c .before .before in
-    let d = deep6 (second .before .before) in
+    let found = c .before .before in
+    let d = deep6 (found .before) in
     let t = told-at d in
     let a = start t .args in
     same-flanks (low d .reads) (high d .reads)
-    (c .before .idle .ensures ∙ ap₂ idle (low d .reads) (left-corner (second .before)))
-    (c .idle2 .ensures ∙ ap₂ idle (low d .reads) (right-corner second))
+    (c .before .idle .ensures ∙ ap₂ idle (low d .reads) (left-corner found))
+    (c .idle2 .ensures ∙ ap₂ idle (low d .reads) (right-corner found))
     ∙ ap (from-ends (a .count) (now (a .xs)) (now (a .ys))) (ends-are (t .before .before))
     ∙ sym (begun-ordered (a .count) (now (a .xs)) (now (a .ys)) (a .ax) (a .ay) (a .bx) (a .by))
 
@@ -225,10 +212,7 @@ begin-spec =
     add-low
     cast-high
     sub-high
-    sub-tangent
-    sub-tangent-2
-    tangent-requires
-    tangent-requires-2
+    tangents-requires
     idle-requires
     idle-requires-2
     returns)
