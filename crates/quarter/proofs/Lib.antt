@@ -6,7 +6,7 @@
 --   Nearest, Rules                          the quarter is what the rules of specs/Steps put out
 --   Unique, Lines                           and they put out nothing else; what they come to lies on its lines
 --   Halving, Tries                          the search for the near root by halves, and how many values it tries
---   Most, Stack, Laid                       for the code: bounds of machine numbers, the stack, arrays of corners
+--   Most, Depth, Stack, Laid                for the code: bounds of machine numbers, the stack and how deep it gets, arrays of corners
 --   Cornered                                the answer, by the check of the setting
 pub mod Slope
 pub mod Naturals
@@ -28,6 +28,7 @@ pub mod Lines
 pub mod Halving
 pub mod Tries
 pub mod Theorems
+pub mod Depth
 pub mod Stack
 pub mod Laid
 pub mod Cornered

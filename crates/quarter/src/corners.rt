@@ -10,13 +10,10 @@ use limits::QUARTER_MAX;
 use setting::Setting;
 ghost use mathlib.Core.Path.{_≡_};
 ghost use mathlib.Core.List.{[]};
-ghost use Prim.Native.Nat.{_≤_, _<_};
-ghost use lib.IntN.{pos, negℤ};
-ghost use Rattle.limits.specs.Sizes.{quarterMax};
 ghost use Rattle.setting.specs.Setting.{Taken};
 ghost use Rattle.quarter.specs.Cutting.{first, quarter};
 ghost use Rattle.quarter.specs.Answer.{quarterOf};
-ghost use Rattle.quarter.specs.Held.{state, putOut};
+ghost use Rattle.quarter.specs.Held.{state};
 
 // The start: the lower right corner of the rectangle, between its bottom and its right side.
 fn begin(s: Setting) -> Work
@@ -59,42 +56,42 @@ pub fn none() -> Quarter
     }
 }
 
-// The corner (x, y) is put out, its y upwards, unless it is cut by d.
-fn put(q: Quarter, d: u64, x: u64, y: u64) -> Quarter
-    requires place { ⌜ q .count < quarterMax ⌝ }
-    requires across { ⌜ x ≤ 32 ⌝ }
-    requires down { ⌜ y ≤ 32 ⌝ }
-    ensures { λ r. ⌜ r ≡ putOut d q (pos x) (negℤ (pos y)) ⌝ }
-{
-    if 0 < d {
-        return q;
-    }
-    let n = q.count;
-    let mut r = q;
-    r.x[n] = x as i8;
-    r.y[n] = -(y as i8);
-    r.count = n + 1;
-    r
-}
+// The stack of edges never holds more (proofs/Depth), and its places are one more, so that one lies
+// before `top`.
+const DEEPEST: usize = 8;
 
-// The places of the stack of edges: one more than there are corners, so that one lies before `top`.
-const STACK: usize = QUARTER_MAX + 1;
+const STACK: usize = DEEPEST + 1;
 
 // The rounds, until no edge is left after the corner. The edges after it are a stack from `top` to
-// the array's end; what lies before `top` does not count, so that `new` may be stored there always.
+// the array's end; what lies before `top` does not count, so that `new` may be stored there always,
+// and the array begins as zeros, which are cleared faster than an edge is repeated.
+// A corner that is not cut is put out, its y upwards; it is stored here, so that no function hands
+// on all places of the quarter.
 pub fn quarter(s: Setting) -> Quarter
     requires { ⌜ Taken s ⌝ }
     ensures { λ q. ⌜ q ≡ quarterOf (quarter s) ⌝ }
 {
     let mut t = begin(s);
     let upright = t.last;
-    let mut after = [upright; STACK];
-    let mut top = QUARTER_MAX;
+    let mut after = [Edge {
+        u: 0,
+        v: 0,
+        c: 0,
+        l1: 0,
+        l2: 0,
+    }; STACK];
+    after[DEEPEST] = upright;
+    let mut top = DEEPEST;
     let mut q = none();
     while top < STACK {
         let r = after[top];
         let d = amount(s, t.before, r);
-        q = put(q, d, t.x, t.y);
+        if d == 0 {
+            let n = q.count;
+            q.x[n] = t.x as i8;
+            q.y[n] = -(t.y as i8);
+            q.count = n + 1;
+        }
         t = step(s, t, r, d);
         let last = t.last;
         let new = t.new;

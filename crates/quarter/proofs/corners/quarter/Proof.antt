@@ -1,5 +1,6 @@
 -- The loop goes from moment to moment of the steps: the laws of a moment say that there is room, that no number is too large, and that it ends.
 use Rattle.quarter.proofs.Theorems.{steps-fall, at-most-33, ends-with-quarter, nothing-below-zero}
+use Rattle.quarter.proofs.Depth.{at-most-8}
 use Rattle.quarter.proofs.Stack.{drop-top, drop-front}
 use Rattle.quarter.proofs.Laid.{stored-quarter}
 use Rattle.quarter.specs.Held.{front, state, Room, Stepped, stored, putOut, outcome}
@@ -12,18 +13,23 @@ use Rattle.quarter.specs.declared.Edge.{Edge}
 use Rattle.quarter.specs.declared.Quarter.{Quarter}
 use Rattle.quarter.specs.declared.Work.{Work}
 use Rattle.setting.specs.declared.Setting.{Setting}
-use lib.IntN.{pos, negℤ}
+use lib.Dec.{leb→le}
+use lib.IntN.{ℤ, pos, negℤ, _-ℤ_, +ℤ-idl}
+use mir.Syntax.{w8}
+use mir.Val.{toZ, ofZ}
+use mathlib.Core.Logic.{⊎-elim}
+use Rattle.integers.proofs.Machine.{Is, of-nat, num, sub, sub-fits}
 use lib.ListN.{length, drop, getD, set, length-set, length-drop, drop-of-length-le}
 use native.Mathlib.Omega.{arith}
 use mathlib.Core.List.{List, [], _∷_, _++_}
-use mathlib.Core.Path.{_≡_, refl, sym, ap, subst, _∙_}
+use mathlib.Core.Path.{_≡_, refl, sym, ap, ap₂, subst, _∙_}
 use Prim.Native.Nat.{ℕ, zero, suc, _+_, _-_, _≤_, _<_}
 use Rattle.quarter.proofs.corners.quarter.Statement.{statement}
 use Rattle.quarter.proofs.corners.quarter.Tie as tie
 
 -- how many places the stack of edges has
 abbrev places : ℕ
-places = quarterMax + 1
+places = 9
 
 -- the edges after the corner are those from the stack's top to the array's end
 abbrev at : Work → List Edge → ℕ → State
@@ -48,13 +54,30 @@ begun σ t e m =
     ∙ e
 
 -- ---- what holds at a moment, and what one round makes of it
+-- ---- what a round does to the list: a corner is stored where the amount is 0
+module _ (q : Quarter) (a b : ℤ) where
+  put-out : (d : ℕ) → d ≡ 0 → stored q a b ≡ putOut d q a b
+  put-out zero h = refl
+  put-out (suc d) h = absurd (omega (arith, h))
+
+  kept : (d : ℕ) → (d ≡ 0 → ⊥) → q ≡ putOut d q a b
+  kept zero h = absurd (h refl)
+  kept (suc d) h = refl
+
+-- a number of at most 32 is the same as an i8, and so is its opposite
+across : {x : ℕ} → x ≤ 32 → Is w8 (pos x) x 32
+across {x} h = of-nat x h tt
+
+upwards : {y : ℕ} → y ≤ 32 → toZ w8 (ofZ w8 (pos 0 -ℤ toZ w8 y)) ≡ negℤ (pos y)
+upwards {y} h = sub (num (pos 0) tt) (across h) tt .reads ∙ +ℤ-idl (negℤ (pos y))
+
 module _ {σ : Setting} {t : Work} {after : List Edge} {top : ℕ} {q : Quarter} (h : Held σ t after top q) where
   few : length (h .out) + (places - top) ≤ quarterMax
   few = omega (arith, at-most-33 σ (h .taken) (h .out) (at t after top) (h .moment), length-drop top after, h .long)
 
   -- there is a place below the top, so that an edge may be stored there
   low : 1 ≤ top
-  low = omega (arith, few)
+  low = omega (arith, at-most-8 σ (h .taken) (h .moment), length-drop top after, h .long)
 
   -- where no edge is left, the corners put out are the quarter
   ended : places ≤ top → q ≡ quarterOf (quarter σ)
@@ -144,8 +167,25 @@ tested c = c .before .before .before .before
 abbrev storing : tie.After-new Inv-loop μ-loop → tie.In-loop Inv-loop μ-loop
 storing c = tested (c .before .before)
 
+-- a corner is stored where the amount is 0
+put :
+    (c : tie.Joined1 Inv-loop μ-loop) → let l = c .before .before .before .before .loop in
+    c .if1 .q ≡ putOut (c .before .amount .result) (l .q) (pos (l .t .x)) (negℤ (pos (l .t .y)))
+put c =
+    let a = c .before in
+    let test = a .before .before in
+    let l = test .before .loop in
+    let r = ready (l .inv) (test .loop-test .taken) in
+    ⊎-elim
+    (λ w. w .3 ∙ ap₂ (stored (l .q)) (across (r .x-small) .reads) (upwards (r .y-small)) ∙ put-out (l .q) (pos (l .t .x)) (negℤ (pos (l .t .y))) (a .amount .result) (w .0 .taken))
+    (λ w. w .1 ∙ kept (l .q) (pos (l .t .x)) (negℤ (pos (l .t .y))) (a .amount .result) (w .0 .left))
+    (c .if1 .came)
+
 begin-requires : tie.Need-begin-requires Inv-loop μ-loop
 begin-requires c κs = c .pre
+
+array-set-from-after : tie.Need-array-set-from-after Inv-loop μ-loop
+array-set-from-after c = leb→le 9 9 tt
 
 none-requires : tie.Need-none-requires Inv-loop μ-loop
 none-requires c κs = tt
@@ -177,12 +217,35 @@ amount-requires c κs =
     let r = ready i (test .loop-test .taken) in
     (i .taken, (r .before, r .after))
 
-put-requires : tie.Need-put-requires Inv-loop μ-loop
-put-requires c κs =
-    let test = c .before .before in
-    let i = test .before .loop .inv in
-    let r = ready i (test .loop-test .taken) in
-    (place-left i (test .loop-test .taken), (r .x-small, r .y-small))
+cast-q : tie.Need-cast-q Inv-loop μ-loop
+cast-q c =
+    let test = c .before .before .before .before in
+    across (ready (test .before .loop .inv) (test .loop-test .taken) .x-small) .fits
+
+element-set-from-q : tie.Need-element-set-from-q Inv-loop μ-loop
+element-set-from-q c =
+    let test = c .before .before .before .before in
+    place-left (test .before .loop .inv) (test .loop-test .taken)
+
+cast-q-2 : tie.Need-cast-q-2 Inv-loop μ-loop
+cast-q-2 c =
+    let test = c .before .before .before .before .before in
+    across (ready (test .before .loop .inv) (test .loop-test .taken) .y-small) .fits
+
+sub-q : tie.Need-sub-q Inv-loop μ-loop
+sub-q c =
+    let test = c .before .before .before .before .before in
+    sub-fits (num (pos 0) tt) (across (ready (test .before .loop .inv) (test .loop-test .taken) .y-small)) tt
+
+element-set-from-q-2 : tie.Need-element-set-from-q-2 Inv-loop μ-loop
+element-set-from-q-2 c =
+    let test = c .before .before .before .before .before in
+    place-left (test .before .loop .inv) (test .loop-test .taken)
+
+add-q : tie.Need-add-q Inv-loop μ-loop
+add-q c =
+    let test = c .before .before .before .before .before in
+    record { fits = omega (arith, place-left (test .before .loop .inv) (test .loop-test .taken)) }
 
 step-requires : tie.Need-step-requires Inv-loop μ-loop
 step-requires c κs =
@@ -193,8 +256,8 @@ step-requires c κs =
 mul-after : tie.Need-mul-after Inv-loop μ-loop
 mul-after c = record { fits = omega (arith, storing c .loop-test .taken) }
 
-array-set-from-after : tie.Need-array-set-from-after Inv-loop μ-loop
-array-set-from-after c = storing c .loop-test .taken
+array-set-from-after-2 : tie.Need-array-set-from-after-2 Inv-loop μ-loop
+array-set-from-after-2 c = storing c .loop-test .taken
 
 sub-after : tie.Need-sub-after Inv-loop μ-loop
 sub-after c = low (storing c .before .loop .inv)
@@ -202,8 +265,8 @@ sub-after c = low (storing c .before .loop .inv)
 mul-after-2 : tie.Need-mul-after-2 Inv-loop μ-loop
 mul-after-2 c = record { fits = omega (arith, storing c .loop-test .taken) }
 
-array-set-from-after-2 : tie.Need-array-set-from-after-2 Inv-loop μ-loop
-array-set-from-after-2 c = omega (arith, storing c .loop-test .taken)
+array-set-from-after-3 : tie.Need-array-set-from-after-3 Inv-loop μ-loop
+array-set-from-after-3 c = omega (arith, storing c .loop-test .taken)
 
 add-top : tie.Need-add-top Inv-loop μ-loop
 add-top c = record { fits = omega (arith, storing c .loop-test .taken) }
@@ -223,7 +286,7 @@ loop-again : tie.Need-loop-again Inv-loop μ-loop
 loop-again c =
     let stepped = c .before .before .before in
     let test = tested stepped in
-    again (test .before .loop .inv) (test .loop-test .taken) (stepped .before .before .amount .ensures) (stepped .step .ensures) (stepped .before .put .ensures)
+    again (test .before .loop .inv) (test .loop-test .taken) (stepped .before .before .amount .ensures) (stepped .step .ensures) (put (stepped .before))
 
 returns : tie.Need-returns Inv-loop μ-loop
 returns c = ended (c .before .loop .inv) (c .loop-test .left)
@@ -235,18 +298,24 @@ quarter-spec =
     Inv-loop
     μ-loop
     begin-requires
+    array-set-from-after
     none-requires
     loop-holds
     mul-r
     array-copy-out-r
     amount-requires
-    put-requires
+    cast-q
+    element-set-from-q
+    cast-q-2
+    sub-q
+    element-set-from-q-2
+    add-q
     step-requires
     mul-after
-    array-set-from-after
+    array-set-from-after-2
     sub-after
     mul-after-2
-    array-set-from-after-2
+    array-set-from-after-3
     add-top
     sub-top
     loop-less
