@@ -4,7 +4,7 @@ use mathlib.Core.Path.{_≡_}
 use mathlib.Core.Bool.{cond}
 use mathlib.Core.List.{List}
 use lib.ListN.{length, set, getD}
-use lib.IntN.{pos}
+use lib.IntN.{ℤ, pos}
 use Rattle.integers.specs.Bound.{Abs}
 use Rattle.limits.specs.Sizes.{quarterMax}
 use Rattle.quarter.specs.declared.Quarter.{Quarter}
@@ -17,6 +17,10 @@ origin = pt (pos 0) (pos 0)
 
 abbrev pub pointOf : Point → Pt
 pointOf p = pt (p .x) (p .y)
+
+-- the quarter of n corners whose numbers the two arrays hold
+abbrev pub quarterIn : ℕ → List ℤ → List ℤ → Quarter
+quarterIn n xs ys = record { count = n; x = xs; y = ys }
 
 abbrev pub cornersOf : Quarter → List Pt
 cornersOf q = corners (q .count) (q .x) (q .y)

@@ -9,7 +9,10 @@ use mir.Val.{toZ, ofZ}
 use Rattle.limits.specs.Sizes.{penMax}
 use Rattle.plane.specs.Point.{Pt, pt}
 use Rattle.pen.specs.declared.polygon.Point.{Point}
-use Rattle.pen.specs.Mirrored.{Boxed, pointOf, pushed}
+use Rattle.pen.specs.declared.Pen.{Pen}
+use Rattle.pen.specs.Polygon.{whole}
+use Rattle.pen.specs.Answer.{penOf}
+use Rattle.pen.specs.Mirrored.{Boxed, cornersOf, pointOf, pushed}
 use Rattle.pen.proofs.Laid.{pushed-skipped, pushed-added}
 use Rattle.pen.proofs.Opposites.{i8-itself}
 use Rattle.pen.proofs.Mirroring.{Going, going-first, going-room, going-on, going-ended}
@@ -17,10 +20,10 @@ use Rattle.pen.proofs.polygon.mirrored.Statement.{statement}
 use Rattle.pen.proofs.polygon.mirrored.Tie as tie
 
 abbrev Inv-loop : tie.InvT-loop
-Inv-loop q n first p₀ ax₀ ay₀ i₀ p ax ay i = Going q p i (pt (toZ w8 ax) (toZ w8 ay))
+Inv-loop q quarter n first p₀ ax₀ ay₀ i₀ p ax ay i = Going q p i (pt (toZ w8 ax) (toZ w8 ay))
 
 abbrev μ-loop : tie.MeasureT-loop
-μ-loop q n first p₀ ax₀ ay₀ i₀ p ax ay i = 4 * q .count - i
+μ-loop q quarter n first p₀ ax₀ ay₀ i₀ p ax ay i = 4 * q .count - i
 
 -- ---- the places
 -- where the first corner is known, seen from the loop
@@ -36,7 +39,7 @@ compared c = c .before .before .before
 
 -- the loop's test, seen from the next corner
 abbrev tested : tie.After-corner-at2 Inv-loop μ-loop → tie.In-loop Inv-loop μ-loop
-tested c = c .before
+tested c = c .before .before .before .before
 
 -- the corner that is to be stored, and the next one, as the code hands them on
 abbrev current : tie.At-loop Inv-loop μ-loop → Pt
@@ -71,12 +74,28 @@ stored c =
     (λ w. w .1 ∙ pushed-skipped (l .loop .p) (current l) b (told ∙ unnot _ _ (w .0 .left)))
     (c .if1 .came)
 
+-- ---- the last corner, which goes with the first
+-- where the walk has ended, seen from the last comparison
+abbrev ended : tie.After-equal2 Inv-loop μ-loop → tie.After-loop Inv-loop μ-loop
+ended c = c .before .before .before
+
+last-place : (c : tie.Then2 Inv-loop μ-loop) → ended (c .before) .before .loop .p .count < penMax
+last-place c = going-room (ended (c .before) .before .loop .inv)
+
+-- what is stored of it makes the whole polygon
+closed :
+    (c : tie.After-equal2 Inv-loop μ-loop) {p : Pen} → let l = ended c .before in
+    p ≡ pushed (l .loop .p) (current l) (handed (first-known l .corner-at .result)) → p ≡ penOf (whole (cornersOf (first-known l .before .before .before .before .args .t1)))
+closed c e =
+    let l = ended c .before in
+    going-ended (l .loop .inv) (ended c .loop-test .left) (kept (first-known l .corner-at .ensures)) e
+
 -- ---- the needs
 mul-n : tie.Need-mul-n Inv-loop μ-loop
-mul-n c = record { fits = omega (arith, c .before .pre .few) }
+mul-n c = record { fits = omega (arith, c .pre .few) }
 
 corner-at-requires : tie.Need-corner-at-requires Inv-loop μ-loop
-corner-at-requires c κs = (c .before .pre, omega (arith, c .before .pre .some))
+corner-at-requires c κs = let p = c .before .before .before .pre in (p, omega (arith, p .some))
 
 none-requires : tie.Need-none-requires Inv-loop μ-loop
 none-requires c κs = tt
@@ -85,11 +104,11 @@ loop-holds : tie.Need-loop-holds Inv-loop μ-loop
 loop-holds c =
     let none = c .before .before in
     let first = none .before in
-    let s = first .before .before in
-    going-first (s .args .q) (s .pre) (none .none .ensures) (kept (first .corner-at .ensures))
+    let s = first .before .before .before .before in
+    going-first (s .args .t1) (s .pre) (none .none .ensures) (kept (first .corner-at .ensures))
 
 corner-at-requires-2 : tie.Need-corner-at-requires-2 Inv-loop μ-loop
-corner-at-requires-2 c κs = (c .before .loop .inv .mirrorable, c .loop-test .taken)
+corner-at-requires-2 c κs = let test = c .before .before .before in (test .before .loop .inv .mirrorable, test .loop-test .taken)
 
 equal-requires : tie.Need-equal-requires Inv-loop μ-loop
 equal-requires c κs = tt
@@ -117,14 +136,29 @@ loop-again c =
     let test = tested next in
     going-on (test .before .loop .inv) (test .loop-test .taken) (kept (next .corner-at2 .ensures)) (stored (c .before .before))
 
-push-requires : tie.Need-push-requires Inv-loop μ-loop
-push-requires c κs = let ended = c .before .before in going-room (ended .before .loop .inv)
+equal-requires-2 : tie.Need-equal-requires-2 Inv-loop μ-loop
+equal-requires-2 c κs = tt
+
+element-set-from-ax-2 : tie.Need-element-set-from-ax-2 Inv-loop μ-loop
+element-set-from-ax-2 c = last-place c
+
+element-set-from-ay-2 : tie.Need-element-set-from-ay-2 Inv-loop μ-loop
+element-set-from-ay-2 c = last-place c
+
+add-p-2 : tie.Need-add-p-2 Inv-loop μ-loop
+add-p-2 c = record { fits = omega (arith, last-place c) }
 
 returns : tie.Need-returns Inv-loop μ-loop
 returns c =
-    let ended = c .before .before .before in
-    let l = ended .before in
-    going-ended (l .loop .inv) (ended .loop-test .left) (kept (first-known l .corner-at .ensures)) (c .push .ensures)
+    let l = ended (c .before) .before in
+    let f = handed (first-known l .corner-at .result) in
+    closed (c .before) (pushed-added (l .loop .p) (current l) f (sym (c .before .equal2 .ensures) ∙ unnot _ _ (c .if2 .taken)))
+
+returns-2 : tie.Need-returns-2 Inv-loop μ-loop
+returns-2 c =
+    let l = ended (c .before) .before in
+    let f = handed (first-known l .corner-at .result) in
+    closed (c .before) (pushed-skipped (l .loop .p) (current l) f (sym (c .before .equal2 .ensures) ∙ unnot _ _ (c .if2 .left)))
 
 pub mirrored-spec : {M : Type 1} → statement M
 mirrored-spec =
@@ -144,5 +178,9 @@ mirrored-spec =
     add-i
     loop-less
     loop-again
-    push-requires
-    returns)
+    equal-requires-2
+    element-set-from-ax-2
+    element-set-from-ay-2
+    add-p-2
+    returns
+    returns-2)
