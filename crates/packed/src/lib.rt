@@ -8,6 +8,7 @@ use checks::Answer;
 use limits::Verdict;
 use pen::Pen;
 ghost use mathlib.Core.Path.{_≡_};
+ghost use Rattle.plane.specs.Point.{corners};
 ghost use Rattle.pen.specs.Answer.{penCorners};
 ghost use Rattle.packed.specs.Packed.{packResult, packedCall};
 
@@ -44,17 +45,26 @@ pub fn packed_for(
 ) -> Answer
     ensures { λ r. ⌜ record { answer = r; list = now (bytes .exit) } ≡ packResult (penCorners pen) (now (path .entry)) columns rows row (now (bytes .entry)) ⌝ }
 {
+    packed_of(&pen.x, &pen.y, pen.count, path, columns, rows, row, bytes)
+}
+
+// The same for the pen's arrays, which are lent and not copied.
+pub fn packed_of<'a>(
+    xs: &'a [i8],
+    ys: &'a [i8],
+    count: usize,
+    path: &[i32],
+    columns: u64,
+    rows: u64,
+    row: u64,
+    bytes: &mut [u8],
+) -> Answer
+    ensures { λ r. ⌜ record { answer = r; list = now (bytes .exit) }
+        ≡ packResult (corners count (now (xs .entry)) (now (ys .entry))) (now (path .entry)) columns rows row (now (bytes .entry)) ⌝ }
+{
     let checked = checks::check(path, columns, rows, row);
     let Verdict::Passed = checked else {
         return checks::report(checked);
     };
-    draw::draw_packed(
-        bytes,
-        &pen.x,
-        &pen.y,
-        pen.count,
-        path,
-        columns as usize,
-        row,
-    )
+    draw::draw_packed(bytes, xs, ys, count, path, columns as usize, row)
 }

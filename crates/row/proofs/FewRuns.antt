@@ -18,7 +18,7 @@ use Rattle.cuts.specs.declared.cut.Cut.{Cut}
 use Rattle.cuts.specs.declared.cut.Cut.the-variants as cut·
 use Rattle.cuts.specs.Cuts.{cutTo, inCut, Below}
 use Rattle.cuts.proofs.Raster.{in-cut, cut-below}
-use Rattle.cuts.proofs.Segments.{start-in}
+use Rattle.segments.proofs.Ends.{start-in}
 use Rattle.row.specs.Pass.{before}
 use Rattle.row.proofs.Grown.{runs-grown, grown-length}
 use Rattle.row.proofs.OneRun.{runs-one, runs-none}

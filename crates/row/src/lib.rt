@@ -8,6 +8,7 @@ use checks::Answer;
 use limits::Verdict;
 use pen::Pen;
 ghost use mathlib.Core.Path.{_≡_};
+ghost use Rattle.plane.specs.Point.{corners};
 ghost use Rattle.pen.specs.Answer.{penCorners};
 ghost use Rattle.row.specs.Answer.{rowResult};
 ghost use Rattle.row.specs.Calls.{rowCall};
@@ -46,9 +47,26 @@ pub fn runs_for(
 ) -> Answer
     ensures { λ r. ⌜ record { answer = r; list = now (runs .exit) } ≡ rowResult (penCorners pen) (now (path .entry)) columns rows row (now (runs .entry)) ⌝ }
 {
+    runs_of(&pen.x, &pen.y, pen.count, path, columns, rows, row, runs)
+}
+
+// The same for the pen's arrays, which are lent and not copied.
+pub fn runs_of<'a>(
+    xs: &'a [i8],
+    ys: &'a [i8],
+    count: usize,
+    path: &[i32],
+    columns: u64,
+    rows: u64,
+    row: u64,
+    runs: &mut [u16],
+) -> Answer
+    ensures { λ r. ⌜ record { answer = r; list = now (runs .exit) }
+        ≡ rowResult (corners count (now (xs .entry)) (now (ys .entry))) (now (path .entry)) columns rows row (now (runs .entry)) ⌝ }
+{
     let checked = checks::check(path, columns, rows, row);
     let Verdict::Passed = checked else {
         return checks::report(checked);
     };
-    draw::draw_runs(runs, &pen.x, &pen.y, pen.count, path, columns as usize, row)
+    draw::draw_runs(runs, xs, ys, count, path, columns as usize, row)
 }

@@ -2,11 +2,11 @@
 use mathlib.Core.Path.{sym, _∙_}
 use borrow.Author.Needs.{needs}
 use Rattle.limits.specs.Sizes.{Drawable}
-use Rattle.pen.specs.Answer.{penCorners}
+use Rattle.plane.specs.Point.{corners}
 use Rattle.checks.proofs.Verdicts.{verdict-passed}
-use Rattle.row.proofs.Calls.{runs-refused, runs-passed}
-use Rattle.row.proofs.runs_for.Statement.{statement}
-use Rattle.row.proofs.runs_for.Tie as tie
+use Rattle.packed.proofs.Calls.{packed-refused, packed-passed}
+use Rattle.packed.proofs.packed_of.Statement.{statement}
+use Rattle.packed.proofs.packed_of.Tie as tie
 
 -- where the checks have answered
 abbrev start : tie.After-check → tie.Start
@@ -18,10 +18,6 @@ drawable c =
     let k = c .before .before in
     let a = start k .args in
     verdict-passed (a .path .now) (a .columns) (a .rows) (a .row) (sym (k .check .ensures) ∙ c .enum-told .given .1)
-
--- the parts of the pen are lent one after the other
-abbrev passed : tie.After-draw-runs-arg5 → tie.After-enum-told
-passed c = let lent = c .before .before .before in lent .before .before .before
 
 check-requires : tie.Need-check-requires
 check-requires c κs = search needs
@@ -39,10 +35,10 @@ returns : tie.Need-returns
 returns c =
     let k = c .before .before .before in
     let a = start k .args in
-    runs-refused (penCorners (a .t1)) (a .path .now) (a .columns) (a .rows) (a .row) (a .runs .now) (k .check .ensures) (c .before .enum-told2 .given .1) (c .report .ensures)
+    packed-refused (corners (a .count) (a .xs .now) (a .ys .now)) (a .path .now) (a .columns) (a .rows) (a .row) (a .bytes .now) (k .check .ensures) (c .before .enum-told2 .given .1) (c .report .ensures)
 
-draw-runs-requires : tie.Need-draw-runs-requires
-draw-runs-requires c κs = drawable (passed c)
+draw-packed-requires : tie.Need-draw-packed-requires
+draw-packed-requires c κs = drawable (c .before)
 
 same-length : tie.Need-same-length
 same-length c = search needs
@@ -50,13 +46,13 @@ same-length c = search needs
 returns-2 : tie.Need-returns-2
 returns-2 c =
     let drawn = c .before .before in
-    let p = passed (drawn .before) in
+    let p = drawn .before .before in
     let k = p .before .before in
     let a = start k .args in
-    runs-passed (penCorners (a .t1)) (a .path .now) (a .columns) (a .rows) (a .row) (a .runs .now) (k .check .ensures) (p .enum-told .given .1) (drawn .draw-runs .ensures)
+    packed-passed (corners (a .count) (a .xs .now) (a .ys .now)) (a .path .now) (a .columns) (a .rows) (a .row) (a .bytes .now) (k .check .ensures) (p .enum-told .given .1) (drawn .draw-packed .ensures)
 
-pub runs-for-spec : {M : Type 1} → statement M
-runs-for-spec =
+pub packed-of-spec : {M : Type 1} → statement M
+packed-of-spec =
     tie.close
     (tie.spec
     check-requires
@@ -64,6 +60,6 @@ runs-for-spec =
     enum-told-2
     report-requires
     returns
-    draw-runs-requires
+    draw-packed-requires
     same-length
     returns-2)
