@@ -1,6 +1,7 @@
 /*
  * The stroke drawer of a laser film plotter: which pixels of a row a stroke
- * blackens. Link libhost.a (x86-64). C99; also for C++.
+ * blackens. Link libhost.a (x86-64). C99; also for C++. zimarolfo_band.h has the
+ * function that draws a stroke into many rows by one call.
  *
  * Units. y grows upwards. Pixel (i, j) has its centre at column i, row j. A path
  * coordinate counts sixteenths of a pixel, so that centre is at (16i, 16j).
@@ -48,8 +49,9 @@
  * what is written. Any address will do. A null pointer with length 0 is an empty
  * path (refusal 2) or no room at all: no run, or no byte, fits in it.
  *
- * Stack. A row call needs 53,536 bytes of it and a packed row 51,008, whatever the
- * path. A thread of ZIMAROLFO_STACK bytes, 64 KB, has enough for both.
+ * Stack. A row call needs less than 54,000 bytes of it and a packed row less than
+ * 52,000, whatever the path. A thread of ZIMAROLFO_STACK bytes, 64 KB, has enough
+ * for both.
  */
 #ifndef ZIMAROLFO_H
 #define ZIMAROLFO_H
@@ -109,7 +111,7 @@ static inline uint32_t zimarolfo_place(uint64_t answer)
     return (uint32_t)(answer >> 8 & 0xFFFFFF);
 }
 
-/* The number of runs, or of bytes filled. */
+/* The number of runs, of bytes filled, or of a band's rows. */
 static inline uint32_t zimarolfo_count(uint64_t answer)
 {
     return (uint32_t)(answer >> 32);

@@ -1,8 +1,8 @@
 -- What is proved of the host's two functions.
 --   Words     the bytes of a list of runs
---   Verdicts  the checks over a path of bytes, and how small the numbers of a refusal are
+--   Verdicts  the checks that come before a pen is built, and how small the numbers of a refusal are
 --   Outcomes  a row's answer as the host is told it
---   Settings  the setting of a call: refused, or its pen is held
+--   Settings  the setting of a call: refused, or the pen that is built is its own
 --   Theorems  what the bytes of runs are, by value
 pub mod Words
 pub mod Verdicts

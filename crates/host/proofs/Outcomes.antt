@@ -1,5 +1,5 @@
 -- A row's answer as the host is told it: three numbers in one, and the runs as bytes.
-use Prim.Native.Nat.{ℕ, _*_, _/_, _≤_, _<_}
+use Prim.Native.Nat.{ℕ, _*_, _/_, _≤_}
 use mathlib.Core.Path.{_≡_, refl, sym, ap, _∙_}
 use mathlib.Core.Bool.{Bool, true, false, cond}
 use mathlib.Core.List.{List}
@@ -15,37 +15,27 @@ use Rattle.limits.specs.Refusal.{room, unless}
 use Rattle.wire.specs.Write.{encoded}
 use Rattle.wire.proofs.Laws.{encoded-none}
 use Rattle.plane.specs.Point.{Pt}
-use Rattle.pen.specs.Answer.{penCorners}
 use Rattle.stroke.specs.Sweep.{pathPoints}
 use Rattle.stroke.specs.Runs.{Run, rowRuns}
 use Rattle.checks.specs.declared.Answer.{Answer}
 use Rattle.checks.specs.Checks.{verdict, roomVerdict}
-use Rattle.checks.specs.Answer.{answerOf, Result, Offer, settled, given}
+use Rattle.checks.specs.Answer.{answerOf, Result, settled, given}
 use Rattle.checks.proofs.Verdicts.{verdict-passed, verdict-short, room-passed, room-refused}
 use Rattle.row.specs.Answer.{runsOffer, rowResult}
 use Rattle.row.proofs.FewRuns.{runs-entries}
 use Rattle.bits.specs.Bits.{packedLength}
 use Rattle.packed.specs.Packed.{packedOffer, packResult}
-use Rattle.host.specs.Host.{coded, Outcome, told, runBytesOffer}
-use Rattle.host.specs.Call.{Fit, written, runsWith, packedWith, callWith, entriesVerdict}
+use Rattle.outcome.specs.Outcome.{coded, Outcome, told}
+use Rattle.outcome.specs.Fit.{Fit, fitted}
+use Rattle.outcome.proofs.Fits.{given-fit}
+use Rattle.outcome.proofs.Fits.{refused-code}
+use Rattle.host.specs.Host.{runBytesOffer}
+use Rattle.host.specs.Call.{written, runsWith, packedWith, callWith, entriesVerdict}
 use Rattle.host.specs.declared.answer.Call.{Call}
-use Rattle.host.proofs.Verdicts.{Small, small-verdict}
+use Rattle.outcome.proofs.Verdicts.{Small, small-verdict}
 use Rattle.host.proofs.Words.{run-words}
 
 -- ---- the numbers fit
--- what a call answers fits one number, where its refusals are small and it has not too much to give
-pub given-fit : (v : Verdict) (o : Offer ℕ) → Small entriesMax v → (v ≡ Passed → o .count ≤ entriesMax) → Fit (given v o .answer)
-given-fit (Refused n place) o s h = record { refusal = omega (arith, s .1); place = omega (arith, s .2); count = omega arith }
-given-fit Passed o s h = go (leb (o .count) (o .space))
-  where
-    go : (t : Bool) → Fit (settled (unless t room) o .answer)
-    go true = record { refusal = omega arith; place = omega arith; count = omega (arith, h refl) }
-    go false = record { refusal = omega arith; place = omega arith; count = omega arith }
-
--- a check that refuses with place 0 fits
-pub refused-fit : (n : ℕ) → n < 256 → Fit (answerOf (Refused n 0))
-refused-fit n h = record { refusal = h; place = omega arith; count = omega arith }
-
 -- a row has no more runs than a path has entries, and fills at most 2,048 bytes
 pub runs-fit : (cs : List Pt) (path : List ℤ) (columns rows j : ℕ) → verdict path columns rows j ≡ Passed → length (rowRuns cs (pathPoints path) columns j) ≤ entriesMax
 runs-fit cs path columns rows j e = omega (arith, runs-entries cs path columns j, verdict-short path columns rows j e)
@@ -54,14 +44,14 @@ pub bytes-fit : (path : List ℤ) (columns rows j : ℕ) → verdict path column
 bytes-fit path columns rows j e = omega (arith, verdict-passed path columns rows j e .size .few)
 
 -- ---- the packed row
-module _ (c : Call) (path : List ℤ) (b : List ℕ) where
-  pub call-packed-fit : Fit (packResult (penCorners (c .pen)) path (c .columns) (c .rows) (c .row) b .answer)
+module _ (cs : List Pt) (c : Call) (path : List ℤ) (b : List ℕ) where
+  pub call-packed-fit : Fit (packResult cs path (c .columns) (c .rows) (c .row) b .answer)
   unfolding packResult
   call-packed-fit =
-      given-fit (entriesVerdict c path) (packedOffer (penCorners (c .pen)) path (c .columns) (c .row) b) (small-verdict path (c .columns) (c .rows) (c .row))
+      given-fit (entriesVerdict c path) (packedOffer cs path (c .columns) (c .row) b) (small-verdict path (c .columns) (c .rows) (c .row))
       (bytes-fit path (c .columns) (c .rows) (c .row))
 
-  pub call-packed : told (packResult (penCorners (c .pen)) path (c .columns) (c .rows) (c .row) b) ≡ packedWith c (entriesVerdict c path) path b
+  pub call-packed : told (packResult cs path (c .columns) (c .rows) (c .row) b) ≡ packedWith cs c (entriesVerdict c path) path b
   unfolding packResult packedWith
   call-packed = refl
 
@@ -93,39 +83,39 @@ runs-told Passed rs l b h = go (leb (length rs) (length l / 2)) h
     go true h = written-runs rs l b
     go false h = absurd (h refl)
 
-module _ (c : Call) (path : List ℤ) (l : List ℕ) where
+module _ (cs : List Pt) (c : Call) (path : List ℤ) (l : List ℕ) where
   abbrev rs : List Run
-  rs = rowRuns (penCorners (c .pen)) (pathPoints path) (c .columns) (c .row)
+  rs = rowRuns cs (pathPoints path) (c .columns) (c .row)
 
-  pub call-runs : (b : List ℕ) → Drawn (rowResult (penCorners (c .pen)) path (c .columns) (c .rows) (c .row) l) b (runsWith c (entriesVerdict c path) path b)
+  pub call-runs : (b : List ℕ) → Drawn (rowResult cs path (c .columns) (c .rows) (c .row) l) b (runsWith cs c (entriesVerdict c path) path b)
   unfolding rowResult runsWith
   call-runs b = record {
-    fit = given-fit (entriesVerdict c path) (runsOffer rs l) (small-verdict path (c .columns) (c .rows) (c .row)) (runs-fit (penCorners (c .pen)) path (c .columns) (c .rows) (c .row));
+    fit = given-fit (entriesVerdict c path) (runsOffer rs l) (small-verdict path (c .columns) (c .rows) (c .row)) (runs-fit cs path (c .columns) (c .rows) (c .row));
     told = runs-told (entriesVerdict c path) rs l b;
   }
 
   -- a list with as many numbers as the path has entries is never too short
-  pub call-enough : (entriesVerdict c path ≡ Passed → length path ≤ length l) → ¬ (rowResult (penCorners (c .pen)) path (c .columns) (c .rows) (c .row) l .answer .refusal ≡ 7)
+  pub call-enough : (entriesVerdict c path ≡ Passed → length path ≤ length l) → ¬ (rowResult cs path (c .columns) (c .rows) (c .row) l .answer .refusal ≡ 7)
   unfolding rowResult
   call-enough long = go (entriesVerdict c path) long (small-verdict path (c .columns) (c .rows) (c .row))
     where
       go : (v : Verdict) → (v ≡ Passed → length path ≤ length l) → Small entriesMax v → ¬ (given v (runsOffer rs l) .answer .refusal ≡ 7)
       go (Refused n place) h s = λ z. omega (arith, z, s .1)
-      go Passed h s = rw (le-leb (length rs) (length l / 2) (omega (arith, h refl, runs-entries (penCorners (c .pen)) path (c .columns) (c .row)))) (λ z. omega (arith, z))
+      go Passed h s = rw (le-leb (length rs) (length l / 2) (omega (arith, h refl, runs-entries cs path (c .columns) (c .row)))) (λ z. omega (arith, z))
 
 -- ---- the bytes of a list, by the check of the host's room
 module _ (a : Answer) (l b : List ℕ) {v : Verdict} (e : v ≡ roomVerdict (a .count) (length b / 4)) where
-  pub written-full : {n place x : ℕ} → v ≡ Refused n place → x ≡ coded (answerOf v) → record { answer = x; bytes = b } ≡ written a l b
-  written-full f g = let r = room-refused (a .count) (length b / 4) e f in rw (lt-leb (a .count) (length b / 4) (r .0), g, r .1)
+  pub written-full : {n place x : ℕ} → v ≡ Refused n place → x ≡ coded (fitted (answerOf v)) → record { answer = x; bytes = b } ≡ written a l b
+  written-full f g = let r = room-refused (a .count) (length b / 4) e f in rw (lt-leb (a .count) (length b / 4) (r .0), refused-code room g (r .1))
 
   pub written-all : {x : ℕ} {k : List ℕ} → v ≡ Passed → x ≡ coded a → k ≡ encoded l (2 * a .count) b → record { answer = x; bytes = k } ≡ written a l b
   written-all f g h = rw (le-leb (a .count) (length b / 4) (room-passed _ _ e f), g, h)
 
 -- ---- a refused call is refused either way
-pub call-refused : (c : Call) (v : Verdict) (path : List ℤ) (b : List ℕ) {n place : ℕ} → v ≡ Refused n place → record { answer = coded (answerOf (Refused n place)); bytes = b } ≡ callWith c v path b
+pub call-refused : (cs : List Pt) (c : Call) (v : Verdict) (path : List ℤ) (b : List ℕ) {n place : ℕ} → v ≡ Refused n place → record { answer = coded (answerOf (Refused n place)); bytes = b } ≡ callWith cs c v path b
 unfolding runsWith packedWith
-call-refused c v path b {n} {place} e = go (c .packed) ∙ ap (λ (u : Verdict). callWith c u path b) (sym e)
+call-refused cs c v path b {n} {place} e = go (c .packed) ∙ ap (λ (u : Verdict). callWith cs c u path b) (sym e)
   where
-    go : (t : Bool) → record { answer = coded (answerOf (Refused n place)); bytes = b } ≡ cond t (packedWith c (Refused n place) path b) (runsWith c (Refused n place) path b)
+    go : (t : Bool) → record { answer = coded (answerOf (Refused n place)); bytes = b } ≡ cond t (packedWith cs c (Refused n place) path b) (runsWith cs c (Refused n place) path b)
     go true = refl
     go false = refl

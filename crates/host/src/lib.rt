@@ -1,7 +1,7 @@
 // The row answer and the packed row for a host program in C: numbers and byte slices only.
 //
-// The way of the data: the setting's pen, the path's coordinates from bytes (wire), the row's answer
-// (answer), and the answer in one number.
+// The way of the data: the path's coordinates from bytes (wire), the setting's pen, the row's answer
+// (row, packed), and the answer in one number (outcome); answer leads through these.
 ghost use mathlib.Core.Path.{_≡_};
 ghost use Rattle.host.specs.Host.{hostRow, hostPackedRow};
 
@@ -26,12 +26,10 @@ pub extern "C" fn zimarolfo_row(
     ensures { λ r. ⌜ record { answer = r; bytes = now (runs .exit) } ≡ hostRow (record { w = w; p = p; q = q }) (now (path .entry)) columns rows row (now (runs .entry)) ⌝ }
 {
     let Checked::Taken(s) = setting::check(w, p, q) else {
-        return answer::refused(Verdict::Refused(limits::BAD_SETTING, 0));
+        return outcome::refused(Verdict::Refused(limits::BAD_SETTING, 0));
     };
-    let built = pen::build(s.w, s.p, s.q);
-    let pen = built.pen;
     let call = Call {
-        pen,
+        setting: s,
         columns,
         rows,
         row,
@@ -56,12 +54,10 @@ pub extern "C" fn zimarolfo_packed_row(
         ≡ hostPackedRow (record { w = w; p = p; q = q }) (now (path .entry)) columns rows row (now (bytes .entry)) ⌝ }
 {
     let Checked::Taken(s) = setting::check(w, p, q) else {
-        return answer::refused(Verdict::Refused(limits::BAD_SETTING, 0));
+        return outcome::refused(Verdict::Refused(limits::BAD_SETTING, 0));
     };
-    let built = pen::build(s.w, s.p, s.q);
-    let pen = built.pen;
     let call = Call {
-        pen,
+        setting: s,
         columns,
         rows,
         row,

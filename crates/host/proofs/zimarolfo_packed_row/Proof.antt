@@ -1,13 +1,12 @@
 -- The setting is refused, or the row is that of its pen.
-use mathlib.Core.Path.{_≡_, sym, _∙_}
-use native.Mathlib.Omega.{arith}
+use mathlib.Core.Path.{_≡_, refl, sym, _∙_}
 use borrow.Author.Needs.{needs}
-use Rattle.limits.specs.Refusal as refusal
+use Rattle.limits.specs.Refusal.{setting}
 use Rattle.setting.specs.declared.Setting.{Setting}
 use Rattle.setting.specs.declared.Checked.the-variants.{Taken}
 use Rattle.setting.specs.Answer.{checked}
-use Rattle.host.proofs.Outcomes.{refused-fit}
-use Rattle.host.proofs.Settings.{built-taken, packed-refused, packed-goes-on}
+use Rattle.outcome.proofs.Fits.{refused-code}
+use Rattle.host.proofs.Settings.{packed-refused, packed-goes-on}
 use Rattle.host.proofs.zimarolfo_packed_row.Statement.{statement}
 use Rattle.host.proofs.zimarolfo_packed_row.Tie as tie
 
@@ -15,14 +14,14 @@ use Rattle.host.proofs.zimarolfo_packed_row.Tie as tie
 abbrev start : tie.After-check → tie.Start
 start c = c .before .before .before
 
-abbrev setting : tie.Start → Setting
-setting s = record { w = s .args .w; p = s .args .p; q = s .args .q }
+abbrev given : tie.Start → Setting
+given s = record { w = s .args .w; p = s .args .p; q = s .args .q }
 
 -- where it is taken
 abbrev taken : tie.After-s → Setting
 taken c = c .s .given .0 .0
 
-is-taken : (c : tie.After-s) → checked (setting (start (c .before .before))) ≡ Taken (taken c)
+is-taken : (c : tie.After-s) → checked (given (start (c .before .before))) ≡ Taken (taken c)
 is-taken c = sym (c .before .before .check .ensures) ∙ c .s .given .1
 
 check-requires : tie.Need-check-requires
@@ -35,17 +34,14 @@ enum-told : tie.Need-enum-told
 enum-told c = search needs
 
 refused-requires : tie.Need-refused-requires
-refused-requires c κs = refused-fit (refusal.number refusal.setting) (omega arith)
+refused-requires c κs = search needs
 
 returns : tie.Need-returns
 returns c =
     let k = c .before .before .before in
     let s = start k in
     let a = s .args in
-    packed-refused (setting s) (a .path .now) (a .columns) (a .rows) (a .row) (a .bytes .now) (sym (k .check .ensures) ∙ c .before .enum-told .given .1) (c .refused .ensures)
-
-build-requires : tie.Need-build-requires
-build-requires c κs = search needs
+    packed-refused (given s) (a .path .now) (a .columns) (a .rows) (a .row) (a .bytes .now) (sym (k .check .ensures) ∙ c .before .enum-told .given .1) (refused-code setting (c .refused .ensures) refl)
 
 of-bytes-requires : tie.Need-of-bytes-requires
 of-bytes-requires c κs = search needs
@@ -56,13 +52,10 @@ same-length c = search needs
 returns-2 : tie.Need-returns-2
 returns-2 c =
     let drawn = c .before .before in
-    let built = drawn .before .before .before in
-    let p = built .before .before in
+    let p = drawn .before .before .before in
     let s = start (p .before .before) in
     let a = s .args in
-    let is-its-pen = built-taken (setting s) (taken p) (built .build .result) (is-taken p) (built .build .ensures) in
-    drawn .of-bytes .ensures
-    ∙ packed-goes-on (setting s) (a .path .now) (a .columns) (a .rows) (a .row) (a .bytes .now) (taken p) (built .build .result .pen) (is-taken p) is-its-pen
+    drawn .of-bytes .ensures ∙ packed-goes-on (given s) (a .path .now) (a .columns) (a .rows) (a .row) (a .bytes .now) (taken p) (is-taken p)
 
 pub zimarolfo-packed-row-spec : {M : Type 1} → statement M
 zimarolfo-packed-row-spec =
@@ -73,7 +66,6 @@ zimarolfo-packed-row-spec =
     enum-told
     refused-requires
     returns
-    build-requires
     of-bytes-requires
     same-length
     returns-2)

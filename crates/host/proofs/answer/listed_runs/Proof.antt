@@ -3,6 +3,7 @@ use Prim.Native.Nat.{ℕ}
 use mathlib.Core.Path.{_≡_, sym, _∙_, subst}
 use mathlib.Core.List.{List}
 use borrow.Author.Needs.{needs}
+use Rattle.plane.specs.Point.{corners}
 use Rattle.checks.specs.Answer.{Result}
 use Rattle.host.specs.Call.{runsWith, entriesVerdict}
 use Rattle.host.proofs.Outcomes.{Drawn, call-runs, call-enough}
@@ -10,31 +11,31 @@ use Rattle.host.proofs.answer.listed_runs.Statement.{statement}
 use Rattle.host.proofs.answer.listed_runs.Tie as tie
 
 -- where the runs have been drawn: the list, and what the answer says
-abbrev start : tie.After-runs-for → tie.Start
+abbrev start : tie.After-runs-of → tie.Start
 start c = c .before .before .before .before
 
-abbrev drawn-list : tie.After-runs-for → List ℕ
-drawn-list c = c .runs-for .last .1 .1 .1 .1 .1 .0
+abbrev drawn-list : tie.After-runs-of → List ℕ
+drawn-list c = c .runs-of .last .1 .1 .1 .1 .1 .1 .1 .0
 
-told : (c : tie.After-runs-for) → let a = start c .args in
-    Drawn (record { answer = c .runs-for .result; list = drawn-list c }) (a .runs .now) (runsWith (a .call) (entriesVerdict (a .call) (a .path .now)) (a .path .now) (a .runs .now))
+told : (c : tie.After-runs-of) → let a = start c .args in
+    Drawn (record { answer = c .runs-of .result; list = drawn-list c }) (a .runs .now) (runsWith (corners (a .count) (a .xs .now) (a .ys .now)) (a .call) (entriesVerdict (a .call) (a .path .now)) (a .path .now) (a .runs .now))
 told c =
     let a = start c .args in
-    subst (λ (r : Result ℕ). Drawn r (a .runs .now) (runsWith (a .call) (entriesVerdict (a .call) (a .path .now)) (a .path .now) (a .runs .now))) (sym (c .runs-for .ensures))
-    (call-runs (a .call) (a .path .now) (a .list .now) (a .runs .now))
+    subst (λ (r : Result ℕ). Drawn r (a .runs .now) (runsWith (corners (a .count) (a .xs .now) (a .ys .now)) (a .call) (entriesVerdict (a .call) (a .path .now)) (a .path .now) (a .runs .now))) (sym (c .runs-of .ensures))
+    (call-runs (corners (a .count) (a .xs .now) (a .ys .now)) (a .call) (a .path .now) (a .list .now) (a .runs .now))
 
 -- where it is lent to be written
-abbrev drawn : tie.After-write-arg → tie.After-runs-for
+abbrev drawn : tie.After-write-arg → tie.After-runs-of
 drawn c = c .before .before .before
 
 -- it is never too short
-enough : (c : tie.After-runs-for) → ¬ (c .runs-for .result .refusal ≡ 7)
+enough : (c : tie.After-runs-of) → ¬ (c .runs-of .result .refusal ≡ 7)
 enough c =
     let s = start c in
-    subst (λ (r : Result ℕ). ¬ (r .answer .refusal ≡ 7)) (sym (c .runs-for .ensures)) (call-enough (s .args .call) (s .args .path .now) (s .args .list .now) (s .pre))
+    subst (λ (r : Result ℕ). ¬ (r .answer .refusal ≡ 7)) (sym (c .runs-of .ensures)) (call-enough (corners (s .args .count) (s .args .xs .now) (s .args .ys .now)) (s .args .call) (s .args .path .now) (s .args .list .now) (s .pre))
 
-runs-for-requires : tie.Need-runs-for-requires
-runs-for-requires c κs = search needs
+runs-of-requires : tie.Need-runs-of-requires
+runs-of-requires c κs = search needs
 
 write-requires : tie.Need-write-requires
 write-requires c κs = told (drawn (c .before)) .fit
@@ -53,4 +54,4 @@ returns c =
 
 pub listed-runs-spec : {M : Type 1} → statement M
 listed-runs-spec =
-    tie.close (tie.spec runs-for-requires write-requires same-length same-length-2 returns)
+    tie.close (tie.spec runs-of-requires write-requires same-length same-length-2 returns)

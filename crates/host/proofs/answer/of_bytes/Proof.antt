@@ -1,21 +1,19 @@
 -- A length that no path has is refused; otherwise the coordinates are those of the bytes.
-use Prim.Native.Nat.{ℕ, _*_, _%_}
-use mathlib.Core.Path.{_≡_, sym, ap, subst, _∙_}
-use mathlib.Core.Bool.{false, _&&_}
-use native.Mathlib.Omega.{arith}
-use lib.Dec.{eqb, leb}
+use Prim.Native.Nat.{ℕ}
+use mathlib.Core.Path.{_≡_, sym, ap, _∙_}
+use mathlib.Core.Bool.{true, false}
 use lib.ListN.{length}
 use borrow.Author.Needs.{needs}
-use Rattle.limits.specs.Sizes.{entriesMax}
-use Rattle.limits.specs.Refusal.{number, path, refuse}
+use Rattle.limits.specs.Refusal.{path, refuse, _then_}
 use Rattle.limits.specs.declared.Verdict.{Verdict}
 use Rattle.limits.proofs.Verdicts.{unless-true, unless-refused}
 use Rattle.wire.specs.Read.{entriesOf}
-use Rattle.checks.specs.Answer.{answerOf}
-use Rattle.host.specs.Host.{coded}
-use Rattle.host.specs.Call.{Fit, callWith}
-use Rattle.host.proofs.Verdicts.{Read, bytes-refused, bytes-read}
-use Rattle.host.proofs.Outcomes.{refused-fit, call-refused}
+use Rattle.checks.specs.Checks.{rasterVerdict, rowVerdict, coordinateVerdict}
+use Rattle.outcome.specs.Read.{isPath}
+use Rattle.outcome.proofs.Verdicts.{length-refused, length-passed, bytes-short}
+use Rattle.outcome.proofs.Fits.{refused-code}
+use Rattle.host.specs.Call.{builtCorners, callWith, entriesVerdict}
+use Rattle.host.proofs.Outcomes.{call-refused}
 use Rattle.host.proofs.answer.of_bytes.Statement.{statement}
 use Rattle.host.proofs.answer.of_bytes.Tie as tie
 
@@ -25,15 +23,12 @@ start c = c .before .before .before
 
 -- where it is refused: the refusal is 2
 refusal : (c : tie.After-enum-told2) → let k = c .before .before in
-    (k .bytes-check .result ≡ refuse path 0) × ((eqb (length (start k .args .path .now) % 4) 0 && leb (length (start k .args .path .now)) (4 * entriesMax)) ≡ false)
+    (k .bytes-check .result ≡ refuse path 0) × (isPath (length (start k .args .path .now)) ≡ false)
 refusal c = unless-refused _ path (c .before .before .bytes-check .ensures) (c .enum-told2 .given .1)
 
 -- where it is passed: the bytes are a path
-read : (c : tie.After-enum-told) → let a = start (c .before .before) .args in Read (a .path .now) (a .call .columns) (a .call .rows) (a .call .row)
-read c =
-    let k = c .before .before in
-    let a = start k .args in
-    bytes-read (a .path .now) (a .call .columns) (a .call .rows) (a .call .row) (unless-true _ path (sym (k .bytes-check .ensures) ∙ c .enum-told .given .1))
+read : (c : tie.After-enum-told) → isPath (length (start (c .before .before) .args .path .now)) ≡ true
+read c = unless-true _ path (sym (c .before .before .bytes-check .ensures) ∙ c .enum-told .given .1)
 
 bytes-check-requires : tie.Need-bytes-check-requires
 bytes-check-requires c κs = search needs
@@ -45,15 +40,16 @@ enum-told-2 : tie.Need-enum-told-2
 enum-told-2 c = search needs
 
 refused-requires : tie.Need-refused-requires
-refused-requires c κs = subst (λ (v : Verdict). Fit (answerOf v)) (sym (refusal c .0)) (refused-fit (number path) (omega arith))
+refused-requires c κs = search needs
 
 returns : tie.Need-returns
 returns c =
     let k = c .before .before .before in
     let a = start k .args in
     let r = refusal (c .before) in
-    ap (λ (n : ℕ). record { answer = n; bytes = a .bytes .now }) (c .refused .ensures ∙ ap (λ (v : Verdict). coded (answerOf v)) (r .0))
-    ∙ call-refused (a .call) _ (entriesOf (a .path .now)) (a .bytes .now) (bytes-refused (a .path .now) (a .call .columns) (a .call .rows) (a .call .row) (r .1))
+    ap (λ (n : ℕ). record { answer = n; bytes = a .bytes .now }) (refused-code path (c .refused .ensures) (r .0))
+    ∙ call-refused (builtCorners (a .call)) (a .call) _ (entriesOf (a .path .now)) (a .bytes .now)
+    (length-refused (a .path .now) (rasterVerdict (a .call .columns) (a .call .rows) then rowVerdict (a .call .rows) (a .call .row) then coordinateVerdict (entriesOf (a .path .now))) (r .1))
 
 short-requires : tie.Need-short-requires
 short-requires c κs = search needs
@@ -66,10 +62,11 @@ returns-2 c =
     let drawn = c .before .before in
     let passed = drawn .before .before .before in
     let a = start (passed .before .before) .args in
-    drawn .short .ensures ∙ ap (λ (v : Verdict). callWith (a .call) v (entriesOf (a .path .now)) (a .bytes .now)) (sym (read passed .same))
+    drawn .short .ensures ∙ ap (λ (v : Verdict). callWith (builtCorners (a .call)) (a .call) (v then entriesVerdict (a .call) (entriesOf (a .path .now))) (entriesOf (a .path .now)) (a .bytes .now))
+    (sym (length-passed (a .path .now) (read passed)))
 
 long-requires : tie.Need-long-requires
-long-requires c κs = read (c .before .before) .short
+long-requires c κs = let passed = c .before .before in bytes-short (start (passed .before .before) .args .path .now) (read passed)
 
 same-length-2 : tie.Need-same-length-2
 same-length-2 c = search needs
@@ -79,7 +76,8 @@ returns-3 c =
     let drawn = c .before .before in
     let passed = drawn .before .before .before in
     let a = start (passed .before .before) .args in
-    drawn .long .ensures ∙ ap (λ (v : Verdict). callWith (a .call) v (entriesOf (a .path .now)) (a .bytes .now)) (sym (read passed .same))
+    drawn .long .ensures ∙ ap (λ (v : Verdict). callWith (builtCorners (a .call)) (a .call) (v then entriesVerdict (a .call) (entriesOf (a .path .now))) (entriesOf (a .path .now)) (a .bytes .now))
+    (sym (length-passed (a .path .now) (read passed)))
 
 pub of-bytes-spec : {M : Type 1} → statement M
 of-bytes-spec =

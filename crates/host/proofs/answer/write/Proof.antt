@@ -1,15 +1,9 @@
 -- The host has no room for the runs, or they are written.
-use Prim.Native.Nat.{_/_}
-use mathlib.Core.Path.{sym, subst}
+use mathlib.Core.Path.{_∙_}
 use native.Mathlib.Omega.{arith}
-use lib.ListN.{length}
 use borrow.Author.Needs.{needs}
-use Rattle.limits.specs.Refusal.{number, room}
-use Rattle.limits.specs.declared.Verdict.{Verdict}
-use Rattle.checks.specs.Answer.{answerOf}
-use Rattle.checks.proofs.Verdicts.{room-refused}
-use Rattle.host.specs.Call.{Fit}
-use Rattle.host.proofs.Outcomes.{refused-fit, written-full, written-all}
+use Rattle.outcome.proofs.Fits.{fitted-same}
+use Rattle.host.proofs.Outcomes.{written-full, written-all}
 use Rattle.host.proofs.answer.write.Statement.{statement}
 use Rattle.host.proofs.answer.write.Tie as tie
 
@@ -27,11 +21,7 @@ enum-told-2 : tie.Need-enum-told-2
 enum-told-2 c = search needs
 
 refused-requires : tie.Need-refused-requires
-refused-requires c κs =
-    let k = c .before .before in
-    let a = start k .args in
-    let r = room-refused (a .a .count) (length (a .runs .now) / 4) (k .room-check .ensures) (c .enum-told2 .given .1) in
-    subst (λ (v : Verdict). Fit (answerOf v)) (sym (r .1)) (refused-fit (number room) (omega arith))
+refused-requires c κs = search needs
 
 returns : tie.Need-returns
 returns c =
@@ -46,7 +36,7 @@ encode-requires : tie.Need-encode-requires
 encode-requires c κs = search needs
 
 code-requires : tie.Need-code-requires
-code-requires c κs = let passed = c .before .before .before .before in start (passed .before .before) .pre
+code-requires c κs = search needs
 
 same-length : tie.Need-same-length
 same-length c = search needs
@@ -57,7 +47,7 @@ returns-2 c =
     let passed = encoded .before .before in
     let k = passed .before .before in
     let a = start k .args in
-    written-all (a .a) (a .list .now) (a .runs .now) (k .room-check .ensures) (passed .enum-told .given .1) (c .code .ensures) (encoded .encode .ensures)
+    written-all (a .a) (a .list .now) (a .runs .now) (k .room-check .ensures) (passed .enum-told .given .1) (c .code .ensures ∙ fitted-same (start k .pre)) (encoded .encode .ensures)
 
 pub write-spec : {M : Type 1} → statement M
 write-spec =

@@ -3,8 +3,8 @@ use mathlib.Core.Path.{sym, _∙_}
 use borrow.Author.Needs.{needs}
 use Rattle.limits.specs.Refusal.{path}
 use Rattle.limits.proofs.Verdicts.{passed, refused}
-use Rattle.host.proofs.answer.bytes_check.Statement.{statement}
-use Rattle.host.proofs.answer.bytes_check.Tie as tie
+use Rattle.outcome.proofs.bytes_check.Statement.{statement}
+use Rattle.outcome.proofs.bytes_check.Tie as tie
 
 is-path-requires : tie.Need-is-path-requires
 is-path-requires c κs = search needs

@@ -2,8 +2,8 @@
 use Rattle.integers.proofs.Tests.{true-and, false-and}
 use borrow.Author.Tests.{eq-eqb, ne-eqb}
 use mathlib.Core.Path.{_∙_}
-use Rattle.host.proofs.answer.is_path.Statement.{statement}
-use Rattle.host.proofs.answer.is_path.Tie as tie
+use Rattle.outcome.proofs.is_path.Statement.{statement}
+use Rattle.outcome.proofs.is_path.Tie as tie
 
 returns : tie.Need-returns
 returns c = true-and _ _ (eq-eqb _ 0 (c .if1 .taken))
