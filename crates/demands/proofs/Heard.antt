@@ -23,10 +23,12 @@ use Rattle.checks.specs.declared.Answer.{Answer}
 use Rattle.checks.specs.Checks.{verdict}
 use Rattle.checks.specs.Answer.{Result, Offer, given}
 use Rattle.packed.specs.Packed.{packedOffer}
-use Rattle.host.specs.Host.{lengthVerdict, hostVerdict, coded, told, runBytesOffer}
-use Rattle.host.specs.Call.{Fit}
-use Rattle.host.proofs.Verdicts.{Small, small-verdict}
-use Rattle.host.proofs.Outcomes.{given-fit, runs-fit, bytes-fit}
+use Rattle.outcome.specs.Outcome.{lengthVerdict, hostVerdict, coded, told}
+use Rattle.outcome.specs.Fit.{Fit}
+use Rattle.outcome.proofs.Verdicts.{Small, small-verdict}
+use Rattle.outcome.proofs.Fits.{given-fit}
+use Rattle.host.specs.Host.{runBytesOffer}
+use Rattle.host.proofs.Outcomes.{runs-fit, bytes-fit}
 use Rattle.demands.specs.Reports.{heard}
 use Rattle.demands.specs.Demand1.{taken-apart}
 

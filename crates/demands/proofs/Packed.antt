@@ -14,7 +14,8 @@ use Rattle.checks.proofs.Given.{zero-gave}
 use Rattle.packed.specs.Packed.{packedOver, packedOffer}
 use Rattle.packed.proofs.Stored.{packed-call-is, row-stored}
 use Rattle.packed.proofs.Bits.{over-bits, over-rest}
-use Rattle.host.specs.Host.{hostVerdict, hostPackedRow}
+use Rattle.outcome.specs.Outcome.{hostVerdict}
+use Rattle.host.specs.Host.{hostPackedRow}
 use Rattle.demands.specs.Reports.{heard}
 use Rattle.demands.specs.Packs.{Packs, packed-row, packed-for, c-packed-row}
 use Rattle.demands.specs.Demand1.{taken-apart}

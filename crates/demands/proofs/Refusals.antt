@@ -37,10 +37,13 @@ use Rattle.row.specs.Answer.{runsOffer, rowResult}
 use Rattle.row.specs.Calls.{rowCall}
 use Rattle.row.proofs.Calls.{look-placed}
 use Rattle.packed.specs.Packed.{packedOffer, packResult, packedCall}
+use Rattle.band.specs.Band.{topRow, bandOffer, bandCall}
+use Rattle.band.proofs.Refusals.{refuses-band}
 use Rattle.records.specs.Theorems.{recordsOffer}
 use Rattle.records.proofs.Plain.{records-given}
-use Rattle.host.specs.Host.{lengthVerdict, hostVerdict, runBytesOffer, hostRow, hostPackedRow}
-use Rattle.demands.specs.Demand1.{RowRefuses, RunsForRefuses, RecordsRefuses, PackedRefuses, PackedForRefuses, BadBytes, taken-apart, HostRowRefuses, HostPackedRefuses}
+use Rattle.outcome.specs.Outcome.{lengthVerdict, hostVerdict}
+use Rattle.host.specs.Host.{runBytesOffer, hostRow, hostPackedRow}
+use Rattle.demands.specs.Demand1.{RowRefuses, RunsForRefuses, RecordsRefuses, PackedRefuses, PackedForRefuses, BandRefuses, BadBytes, taken-apart, HostRowRefuses, HostPackedRefuses}
 use Rattle.demands.proofs.Heard.{runs-apart, packed-apart}
 
 -- ---- a table's aperture, or a pen
@@ -73,13 +76,19 @@ unfolding packResult
 packed-for-refuses cs p columns rows j b =
     call-refuses (packedOffer cs p columns j b) p columns rows j Passed nothing-says (zero-placed p Passed 6 (λ e. omega arith) (inl refl))
 
--- ---- the C calls
-length-says : (bytes : List ℕ) → Says (lengthVerdict bytes) 2 (¬ (length bytes % 4 ≡ 0))
-length-says bytes = unless-says (eqb (length bytes % 4) 0) path (¬ (length bytes % 4 ≡ 0)) (λ e h. h (eqb-true (length bytes % 4) 0 e)) (λ e. eqb-false (length bytes % 4) 0 e)
-
+-- ---- a setting
 setting-placed : (p : List ℤ) (c : Checked) → Placed p (checkedVerdict c)
 setting-placed p (checked·.Taken σ) = zero-placed p Passed 1 (λ e. omega arith) (inl refl)
 setting-placed p checked·.Refused = zero-placed p (Refused 1 0) 1 (λ e. omega arith) (inr refl)
+
+pub band-refuses : BandRefuses
+unfolding bandCall
+band-refuses σ p columns rows first n stride b =
+    refuses-band (call-refuses (bandOffer (pen σ) p columns first n stride b) p columns rows (topRow rows first n) (checkedVerdict (checked σ)) (setting-says σ) (setting-placed p (checked σ)))
+
+-- ---- the C calls
+length-says : (bytes : List ℕ) → Says (lengthVerdict bytes) 2 (¬ (length bytes % 4 ≡ 0))
+length-says bytes = unless-says (eqb (length bytes % 4) 0) path (¬ (length bytes % 4 ≡ 0)) (λ e h. h (eqb-true (length bytes % 4) 0 e)) (λ e. eqb-false (length bytes % 4) 0 e)
 
 -- the checks one after the other, whatever belongs together
 in-order : (a b c d e f r : Verdict) → (((a then b) then c then d then e then f) then r) ≡ (a then (b then c) then d then e then f then r)

@@ -33,7 +33,8 @@ use Rattle.records.specs.declared.Run as records
 use Rattle.records.specs.Records.{recordsCall}
 use Rattle.records.specs.Theorems.{recordsOf, recordsOffer}
 use Rattle.records.proofs.Plain.{records-given}
-use Rattle.host.specs.Host.{lengthVerdict, hostVerdict, runBytes, runBytesOffer, hostRow}
+use Rattle.outcome.specs.Outcome.{lengthVerdict, hostVerdict}
+use Rattle.host.specs.Host.{runBytes, runBytesOffer, hostRow}
 use Rattle.demands.specs.Reports.{runsIn, runsInRecords, runsInBytes, heard, Reports, row-runs, runs-for, row-records, c-row}
 use Rattle.demands.specs.Demand1.{taken-apart}
 use Rattle.demands.proofs.Heard.{runs-apart}
@@ -59,7 +60,7 @@ bytes-runs [] l = refl
 bytes-runs (r ∷ rs) l = rw (two-bytes (r .left), two-bytes (r .right)) (ap (λ (k : List Run). r ∷ k) (bytes-runs rs l))
 
 -- ---- no refusal of a call is 0
-setting-not-zero : (c : Checked) → NotZero (checkedVerdict c)
+pub setting-not-zero : (c : Checked) → NotZero (checkedVerdict c)
 setting-not-zero (checked·.Taken σ) = tt
 setting-not-zero checked·.Refused = omega arith
 

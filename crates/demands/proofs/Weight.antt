@@ -45,7 +45,7 @@ same-value : (u v x y : ℤ) → v *ℤ x +ℤ negℤ u *ℤ y ≡ v *ℤ x -ℤ
 same-value = ring 4 _ (simp reify (omega arith))
 
 -- the greatest value over the corners is the offset
-greatest-offset : {cs : List Pt} (p : Pens cs) (u : ℤ) (v c : ℕ) → Greatest cs u v c → offset cs u v ≡ pos c
+pub greatest-offset : {cs : List Pt} (p : Pens cs) (u : ℤ) (v c : ℕ) → Greatest cs u v c → offset cs u v ≡ pos c
 greatest-offset {cs} p u v c g =
     let k = furthest-corner cs _ _ (pens-laws p) (pos v) (negℤ u) in
     let value : (z : Pt) → dot (pos v) (negℤ u) z ≡ pos v *ℤ z .x -ℤ u *ℤ z .y = λ z. same-value u (pos v) (z .x) (z .y) in

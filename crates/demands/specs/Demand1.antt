@@ -27,9 +27,12 @@ use Rattle.checks.specs.Refuses.{Refuses}
 use Rattle.row.specs.Answer.{rowResult}
 use Rattle.row.specs.Calls.{rowCall}
 use Rattle.packed.specs.Packed.{packResult, packedCall}
+use Rattle.band.specs.Band.{bandCall}
+use Rattle.band.specs.Refuses.{RefusesBand}
 use Rattle.records.specs.declared.Run.{Run}
 use Rattle.records.specs.Records.{recordsCall}
-use Rattle.host.specs.Host.{Outcome, hostRow, hostPackedRow}
+use Rattle.outcome.specs.Outcome.{Outcome}
+use Rattle.host.specs.Host.{hostRow, hostPackedRow}
 use Rattle.demands.specs.Reports.{heard}
 
 -- how many runs a row has for the corners of a pen
@@ -64,6 +67,12 @@ abbrev pub PackedForRefuses : Type 0
 PackedForRefuses =
     (cs : List Pt) (path : List ℤ) (columns rows j : ℕ) (b : List ℕ) →
     Refuses 6 ⊥ (BadPath path) path columns rows j ((columns + 7) / 8) (length b) b (packResult cs path columns rows j b)
+
+-- a band of rows for a setting: 1, then 2, 4, 5 of all its rows, 3, and 7 where a row does not fit the stride, or the rows do not fit the bytes
+abbrev pub BandRefuses : Type 0
+BandRefuses =
+    (σ : Setting) (path : List ℤ) (columns rows first n stride : ℕ) (b : List ℕ) →
+    RefusesBand 1 (BadSetting σ) (BadPath path) path columns rows first n stride b (bandCall σ path columns rows first n stride b)
 
 -- the C calls: "refusal 1 stands where 6 stood in the order"; "a length that is no multiple of four is refusal 2"; "the room is the whole number of such fours"
 abbrev pub BadBytes : List ℕ → Type 0

@@ -9,10 +9,12 @@
 use Prim.Native.Nat.{ℕ, _+_, _*_, _/_, _%_, _-_, _^_, _<_}
 use mathlib.Core.Path.{_≡_}
 use mathlib.Core.Logic.{_⊎_, _↔_}
+use mathlib.Core.Bool.{true}
 use mathlib.Core.List.{List}
-use lib.ListN.{getD, drop}
+use lib.ListN.{length, getD, drop}
 use lib.IntN.{ℤ, pos}
 use Rattle.plane.specs.Point.{Pt}
+use Rattle.bits.specs.Bits.{bitAt}
 use Rattle.setting.specs.declared.Setting.{Setting}
 use Rattle.setting.specs.Setting.{Taken}
 use Rattle.pen.specs.Polygon.{pen}
@@ -25,6 +27,7 @@ use Rattle.row.specs.Calls.{rowCall}
 use Rattle.packed.specs.Packed.{packedCall}
 use Rattle.demands.specs.Reports.{Reports}
 use Rattle.demands.specs.Packs.{Packs}
+use Rattle.demands.specs.Bands.{Bands}
 
 -- the corners of the pen of some setting within the limits
 pub record Pens (cs : List Pt) : Type 0 where
@@ -56,7 +59,26 @@ PacksBlack =
     (cs : List Pt) → Pens cs → (path : List ℤ) (columns rows j count : ℕ) (before after : List ℕ) → Packs cs path columns rows j count before after →
     Packed cs path columns j count before after
 
+-- Bands: the bit of column x in the row i below the top one is 1 exactly when it was or the pixel is black by existence; every other bit stays, be it a spare
+-- one, padding after a row or what comes after the rows
+pub record Banded (cs : List Pt) (path : List ℤ) (columns first n stride : ℕ) (before after : List ℕ) : Type 0 where
+  pub bits : (i x : ℕ) → i < n → x < columns → (bitAt after (8 * stride * i + x) ≡ true)
+      ↔ ((bitAt before (8 * stride * i + x) ≡ true) ⊎ BlackPath cs (pathPoints path) (centre (pos x) (pos (first + (n - 1) - i))))
+  pub others : (z : ℕ) → ((i x : ℕ) → i < n → x < columns → ¬ (z ≡ 8 * stride * i + x)) → bitAt after z ≡ bitAt before z
+  pub past : drop (n * stride) after ≡ drop (n * stride) before
+  pub size : length after ≡ length before
+
+abbrev pub BandsBlack : Type 0
+BandsBlack =
+    (cs : List Pt) (path : List ℤ) (columns rows stride first n : ℕ) (before after : List ℕ) → Bands cs path columns rows stride first n before after →
+    Banded cs path columns first n stride before after
+
 -- ---- which pen a call has
+-- A band that was laid over is one of a setting within the limits
+abbrev pub BandsPens : Type 0
+BandsPens =
+    (cs : List Pt) (path : List ℤ) (columns rows stride first n : ℕ) (before after : List ℕ) → Bands cs path columns rows stride first n before after → Pens cs
+
 -- A table so made holds a setting's pen in every aperture that answers: an answer 0 is for some setting
 abbrev pub AnsweredHolds : Type 0
 AnsweredHolds =

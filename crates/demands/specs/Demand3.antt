@@ -6,19 +6,23 @@
 -- exactly the black pixels of its row, so that the sum over v answers is the number of pixels in v rows.
 --
 -- c is quoted from the demand, "the greatest v times x minus u times y over the pen's corners": some corner attains it, and no corner exceeds it.
-use Prim.Native.Nat.{ℕ, zero, suc, _+_, _<_}
+use Prim.Native.Nat.{ℕ, zero, suc, _+_, _-_, _*_, _≤_, _<_}
 use mathlib.Core.Path.{_≡_}
 use mathlib.Core.Logic.{_⊎_}
+use mathlib.Core.Bool.{true, false}
 use mathlib.Core.List.{List, [], _∷_}
+use lib.ListN.{replicate}
 use lib.IntN.{ℤ, pos, _-ℤ_, _*ℤ_}
 use Rattle.integers.specs.Orders.{_≼_, _≺_}
 use Rattle.integers.specs.Count.{_∈_, Number}
 use Rattle.plane.specs.Point.{Pt}
+use Rattle.bits.specs.Bits.{bitAt}
 use Rattle.setting.specs.Setting.{Dx, Dy}
 use Rattle.stroke.specs.Sweep.{Seg}
 use Rattle.stroke.specs.Runs.{Run, holds}
 use Rattle.stroke.specs.Weight.{BlackPixel, Direction, InsideRow, InsideColumn, InRows}
 use Rattle.demands.specs.Reports.{Reports}
+use Rattle.demands.specs.Bands.{Bands}
 use Rattle.demands.specs.Demand2.{Pens}
 
 -- "the greatest v times x minus u times y over the pen's corners"
@@ -70,3 +74,39 @@ abbrev pub LevelRows : Type 0
 LevelRows =
     (cs : List Pt) (p : Pens cs) (g : Seg) (columns rows : ℕ) (i : ℤ) → MiddleColumn cs p g columns rows i →
     (runs : ℕ → List Run) → Calls cs g columns rows rows (λ k. k) runs → Number (λ j. (j < rows) × CoversColumn (runs j) i) (Dy (p .setting))
+
+-- ---- the bits of bands
+-- clear bytes: no bit of them is 1
+abbrev pub Clear : List ℕ → Type 0
+Clear b = (z : ℕ) → bitAt b z ≡ false
+
+-- so bytes are that are 0
+abbrev pub ZerosClear : Type 0
+ZerosClear = (n : ℕ) → Clear (replicate n 0)
+
+-- bit z belongs to the v rows from the row i below the top one on, be it a column's, a spare one or padding
+abbrev pub OfRows : ℕ → ℕ → ℕ → ℕ → Type 0
+OfRows stride i v z = (8 * stride * i ≤ z) × (z < 8 * stride * (i + v))
+
+-- A stroke laid over clear bytes: any v neighbouring middle rows hold exactly c bits that are 1, within one band or across the seams of several. The v rows from
+-- the row i below the top one on are the raster's rows from first + n - (i + v) on
+abbrev pub BandsHold : Type 0
+BandsHold =
+    (cs : List Pt) (p : Pens cs) (g : Seg) (u : ℤ) (v c columns rows stride first n i : ℕ) (before after : List ℕ) → i + v ≤ n →
+    MiddleRows cs p g u v c columns (first + n - (i + v)) → Clear before → Bands cs (entries g) columns rows stride first n before after →
+    Number (λ z. OfRows stride i v z × (bitAt after z ≡ true)) c
+
+-- a level stroke, all of whose rows are the bands': in a column far enough inside as many bits are 1 as the pen is high
+abbrev pub LevelBands : Type 0
+LevelBands =
+    (cs : List Pt) (p : Pens cs) (g : Seg) (columns rows stride first n x : ℕ) (before after : List ℕ) → x < columns → MiddleColumn cs p g columns rows (pos x) →
+    ((j : ℤ) → BlackPixel cs g (record { column = pos x; row = j }) → (pos first ≼ j) × (j ≺ pos (first + n))) →
+    Clear before → Bands cs (entries g) columns rows stride first n before after →
+    Number (λ i. (i < n) × (bitAt after (8 * stride * i + x) ≡ true)) (Dy (p .setting))
+
+-- "The level part is likewise about the answers for all rows of the raster together": bands that are the whole raster have all rows of the stroke
+abbrev pub LevelRaster : Type 0
+LevelRaster =
+    (cs : List Pt) (p : Pens cs) (g : Seg) (columns rows stride x : ℕ) (before after : List ℕ) → x < columns → MiddleColumn cs p g columns rows (pos x) →
+    Clear before → Bands cs (entries g) columns rows stride 0 rows before after →
+    Number (λ i. (i < rows) × (bitAt after (8 * stride * i + x) ≡ true)) (Dy (p .setting))
