@@ -3,15 +3,10 @@
  * fail. Linked with -Wl,--wrap=zimarolfo_row,--wrap=zimarolfo_packed_row; the variable
  * FAULT names the faults, and without it there is none.
  */
-#define _POSIX_C_SOURCE 200809L
-
 #include "../host/zimarolfo.h"
 #include "faults.h"
 
-#include <stdlib.h>
 #include <string.h>
-#include <time.h>
-#include <unistd.h>
 
 uint64_t __real_zimarolfo_row(uint64_t, uint64_t, uint64_t, const uint8_t *, size_t, uint64_t,
                               uint64_t, uint64_t, uint8_t *, size_t);
@@ -21,13 +16,6 @@ uint64_t __wrap_zimarolfo_row(uint64_t, uint64_t, uint64_t, const uint8_t *, siz
                               uint64_t, uint64_t, uint8_t *, size_t);
 uint64_t __wrap_zimarolfo_packed_row(uint64_t, uint64_t, uint64_t, const uint8_t *, size_t,
                                      uint64_t, uint64_t, uint64_t, uint8_t *, size_t);
-
-/* No fault's name is a part of another's. */
-bool fault(const char *name)
-{
-    const char *wanted = getenv("FAULT");
-    return wanted != NULL && strstr(wanted, name) != NULL;
-}
 
 enum { POINT = 8, LONGEST = 4096 * POINT };
 
@@ -175,14 +163,6 @@ uint64_t __wrap_zimarolfo_packed_row(uint64_t w, uint64_t p, uint64_t q, const u
                                      size_t path_len, uint64_t columns, uint64_t rows,
                                      uint64_t row, uint8_t *bytes, size_t bytes_len)
 {
-    static pid_t first_process = 0;
-    const struct timespec millisecond = {.tv_nsec = 1000 * 1000};
-    if (first_process == 0)
-        first_process = getpid();
-    if (fault("slow"))
-        nanosleep(&millisecond, NULL);
-    if (fault("refuses-in-the-first-process") && row > 0 && getpid() == first_process)
-        return ZIMAROLFO_BAD_ROW;
     struct path own = seen(path, path_len);
     uint64_t answer = __real_zimarolfo_packed_row(w, p, q, own.bytes, own.length, columns, rows,
                                                   row, bytes, bytes_len);
@@ -190,7 +170,5 @@ uint64_t __wrap_zimarolfo_packed_row(uint64_t w, uint64_t p, uint64_t q, const u
     spoil_bytes(bytes, count);
     if (fault("sets-spare-bits") && count > 0 && columns % 8 != 0)
         bytes[count - 1] |= 1;
-    if (fault("differs-in-a-second-process") && count > 0 && getpid() != first_process)
-        bytes[0] ^= 128;
     return spoil(answer, path, path_len, bytes, bytes_len, count);
 }

@@ -2,45 +2,8 @@
  * The C functions through the C header, on the cases of document 01, with document 02's
  * W7. Prints one line and ends with 0 when all hold; names each one that does not and
  * ends with 1.
- *
- * What is lent comes from malloc in just the length that is said, so that a checker
- * of memory sees a read or a write beside it.
  */
-#include "../host/zimarolfo.h"
-
-#include <stdbool.h>
-#include <stdio.h>
-#include <stdlib.h>
-#include <string.h>
-
-enum { UNTOUCHED = 0xEE };
-
-static unsigned checks, failures;
-
-static void check(bool holds, const char *what, int line)
-{
-    checks++;
-    if (!holds) {
-        failures++;
-        fprintf(stderr, "host.c:%d: does not hold: %s\n", line, what);
-    }
-}
-
-#define CHECK(condition) check((condition), #condition, __LINE__)
-
-/* Length bytes, each untouched. A null pointer for none. */
-static uint8_t *lend(size_t length)
-{
-    if (length == 0)
-        return NULL;
-    uint8_t *bytes = malloc(length);
-    if (bytes == NULL) {
-        fprintf(stderr, "host.c: no memory\n");
-        exit(3);
-    }
-    memset(bytes, UNTOUCHED, length);
-    return bytes;
-}
+#include "checks.h"
 
 static bool untouched(const uint8_t *bytes, size_t from, size_t to)
 {
@@ -49,24 +12,6 @@ static bool untouched(const uint8_t *bytes, size_t from, size_t to)
             return false;
     return true;
 }
-
-/* What is asked but for the row; the raster is 20 by 12 unless stated. */
-struct drawing {
-    uint64_t w, p, q, columns, rows;
-    uint8_t *path;
-    size_t path_len;
-};
-
-static struct drawing drawing(uint64_t w, const int32_t *coordinates, size_t count)
-{
-    struct drawing d = {w, 1, 1, 20, 12, lend(4 * count), 4 * count};
-    for (size_t i = 0; i < count; i++)
-        zimarolfo_put_coordinate(d.path, i, coordinates[i]);
-    return d;
-}
-
-#define DRAWING(w, ...) \
-    drawing(w, (const int32_t[]){__VA_ARGS__}, sizeof((const int32_t[]){__VA_ARGS__}) / 4)
 
 static uint64_t ask(const struct drawing *d, uint64_t row, uint8_t *runs, size_t runs_len)
 {
@@ -236,100 +181,35 @@ static void line_weight(void)
 
 static void limits_of_settings_and_sizes(void)
 {
-    struct drawing d = DRAWING(16, 0, 0);
-    const struct {
-        uint64_t w, p, q;
-        bool good;
-    } settings[] = {
-        {15, 1, 1, false},          {16, 1, 1, true},  {512, 1, 1, true},  {513, 1, 1, false},
-        {16, 16, 1, true},          {16, 17, 1, false}, {32, 16, 1, true}, {33, 16, 1, false},
-        {16, 1, 2, false},          {32, 1, 2, true},  {256, 1, 16, true}, {255, 1, 16, false},
-        {64, 0, 1, false},          {64, 1, 0, false}, {512, 16, 16, true}, {512, 16, 17, false},
-        {UINT64_MAX, 1, 1, false},  {64, UINT64_MAX, UINT64_MAX, false},
-        {(UINT64_C(1) << 32) + 64, 1, 1, false},
-    };
-    for (size_t i = 0; i < sizeof settings / sizeof settings[0]; i++) {
-        d.w = settings[i].w;
-        d.p = settings[i].p;
-        d.q = settings[i].q;
-        CHECK(settings[i].good ? taken(&d, 0) : refused(&d, 0, ZIMAROLFO_BAD_SETTING, 0));
-    }
+    check_settings(0, taken, refused);
+    struct drawing d = DRAWING(512, 0, 0);
+    d.p = d.q = 16;
+    CHECK(taken(&d, 0));
     d.w = 16;
     d.p = d.q = 1;
-    const uint64_t sizes[] = {0, 1, 16384, 16385, UINT64_MAX, UINT64_C(1) << 32};
-    for (size_t i = 0; i < sizeof sizes / sizeof sizes[0]; i++) {
-        bool good = 1 <= sizes[i] && sizes[i] <= 16384;
-        d.columns = sizes[i];
-        CHECK(good ? taken(&d, 0) : refused(&d, 0, ZIMAROLFO_BAD_RASTER, 0));
-        d.columns = 20;
-        d.rows = sizes[i];
-        CHECK(good ? taken(&d, 0) : refused(&d, 0, ZIMAROLFO_BAD_RASTER, 0));
-        d.rows = 12;
-    }
     CHECK(taken(&d, 11));
     CHECK(refused(&d, 12, ZIMAROLFO_BAD_ROW, 0));
     CHECK(refused(&d, UINT64_MAX, ZIMAROLFO_BAD_ROW, 0));
     CHECK(refused(&d, UINT64_C(1) << 32, ZIMAROLFO_BAD_ROW, 0));
     free(d.path);
+    check_sizes(0, taken, refused);
+}
+
+static bool a_dot_in_column_1(const struct drawing *d, uint64_t row)
+{
+    return one_run(d, row, 1, 1);
 }
 
 static void limits_of_paths(void)
 {
-    /* 8,192 entries are taken, 8,194 refused; so are odd numbers, parts of an entry, none. */
-    for (size_t entries = 8190; entries <= 8194; entries++) {
-        for (size_t over = 0; over < 4; over++) {
-            struct drawing d = {16, 1, 1, 3, 12, lend(4 * entries + over), 4 * entries + over};
-            for (size_t i = 0; i < entries; i++)
-                zimarolfo_put_coordinate(d.path, i, 16);
-            bool good = entries % 2 == 0 && entries <= 8192 && over == 0;
-            CHECK(good ? one_run(&d, 1, 1, 1) : refused(&d, 1, ZIMAROLFO_BAD_PATH, 0));
-            free(d.path);
-        }
-    }
-    struct drawing none = {16, 1, 1, 20, 12, NULL, 0};
-    CHECK(refused(&none, 0, ZIMAROLFO_BAD_PATH, 0));
-
-    /* 262,144 is taken, 262,145 refused, on both sides, with the first bad entry's index. */
-    for (int32_t sign = -1; sign <= 1; sign += 2) {
-        int32_t limit = sign * 262144, beyond = sign * 262145;
-        struct drawing d = DRAWING(16, limit, limit, limit, 0);
-        CHECK(taken(&d, 0));
-        for (uint32_t i = 0; i < 4; i++) {
-            zimarolfo_put_coordinate(d.path, 3 - i, beyond);
-            CHECK(refused(&d, 0, ZIMAROLFO_BAD_COORDINATE, 3 - i));
-        }
-        zimarolfo_put_coordinate(d.path, 0, INT32_MIN);
-        CHECK(refused(&d, 0, ZIMAROLFO_BAD_COORDINATE, 0));
-        zimarolfo_put_coordinate(d.path, 0, INT32_MAX);
-        CHECK(refused(&d, 0, ZIMAROLFO_BAD_COORDINATE, 0));
-        free(d.path);
-    }
+    check_path_lengths(1, a_dot_in_column_1, refused);
+    check_coordinates(0, taken, refused);
 }
 
-/* Each refusal comes before all that follow it in 1, 2, 4, 5, 3, 7. */
-static void order_of_refusals(void)
+static void refuses_first(const struct drawing *d, uint64_t row, uint64_t expected)
 {
-    const unsigned order[] = {1, 2, 4, 5, 3, 7};
-    for (size_t first = 0; first < 6; first++) {
-        struct drawing d = DRAWING(16, 16, 300000, 16, 16);
-        uint64_t row = 12;
-        d.w = 15;
-        d.path_len = 15;
-        d.columns = 0;
-        for (size_t i = 0; i < first; i++) {
-            switch (order[i]) {
-            case 1: d.w = 16; break;
-            case 2: d.path_len = 16; break;
-            case 4: d.columns = 20; break;
-            case 5: row = 1; break;
-            case 3: zimarolfo_put_coordinate(d.path, 1, 16); break;
-            }
-        }
-        uint64_t expected = order[first] | (order[first] == 3 ? 1 << 8 : 0);
-        CHECK(ask(&d, row, NULL, 0) == expected);
-        CHECK(ask_packed(&d, row, NULL, 0) == expected);
-        free(d.path);
-    }
+    CHECK(ask(d, row, NULL, 0) == expected);
+    CHECK(ask_packed(d, row, NULL, 0) == expected);
 }
 
 /* The whole PBM file for w=16, dot at (32,16), 5 columns, 3 rows. */
@@ -355,8 +235,7 @@ int main(void)
     line_weight();
     limits_of_settings_and_sizes();
     limits_of_paths();
-    order_of_refusals();
+    check_order(12, 1, refuses_first);
     pbm_file();
-    printf("host: %u checks, %u do not hold\n", checks, failures);
-    return failures == 0 ? 0 : 1;
+    return end_of_checks("host");
 }

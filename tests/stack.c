@@ -3,17 +3,11 @@
  * names, or the size in bytes that is given. Prints one line and ends with 0 when
  * the answers are right; a call that needs more stack ends the program with a fault.
  */
-#define _POSIX_C_SOURCE 200809L
-#include "../host/zimarolfo.h"
-
-#include <pthread.h>
-#include <stdio.h>
-#include <stdlib.h>
+#include "stack.h"
 
 enum { POINTS_MAX = 4096, COLUMNS = 16384, ROW = 8 };
 
 static uint8_t path[8 * POINTS_MAX], runs[4 * COLUMNS], bytes[COLUMNS / 8];
-static unsigned calls, failures;
 
 /* A zigzag whose every segment crosses the row four columns after the one before. */
 static void zigzag(size_t points)
@@ -59,15 +53,5 @@ static void *all_calls(void *unused)
 
 int main(int arguments, char **argument)
 {
-    size_t size = arguments > 1 ? strtoul(argument[1], NULL, 10) : ZIMAROLFO_STACK;
-    pthread_attr_t attributes;
-    pthread_t thread;
-    if (pthread_attr_init(&attributes) != 0 || pthread_attr_setstacksize(&attributes, size) != 0 ||
-        pthread_create(&thread, &attributes, all_calls, NULL) != 0 || pthread_join(thread, NULL) != 0) {
-        fprintf(stderr, "stack.c: no thread with %zu bytes of stack\n", size);
-        return 3;
-    }
-    if (failures == 0)
-        printf("stack: %u calls on a thread with %zu bytes of stack\n", calls, size);
-    return failures == 0 ? 0 : 1;
+    return on_small_stack("stack", arguments, argument, all_calls);
 }

@@ -10,7 +10,7 @@ fn main() {
     if let Ok(faults) = std::env::var("ZIMAROLFO_FAULTS") {
         println!("cargo:rerun-if-changed={faults}");
         println!("cargo:rustc-link-arg={faults}");
-        println!("cargo:rustc-link-arg=-Wl,--wrap=zimarolfo_row,--wrap=zimarolfo_packed_row");
+        println!("cargo:rustc-link-arg=-Wl,--wrap=zimarolfo_row,--wrap=zimarolfo_packed_row,--wrap=zimarolfo_band");
     }
     println!("cargo:rustc-link-arg={library}");
 }

@@ -1,7 +1,8 @@
 //! The fast way for the benchmark: a stroke drawn into a whole film, and the
-//! two row functions under names of their own.
+//! three functions for C under names of their own.
 
-use second::abi::lent;
+use second::abi::{band, lent};
+use second::band::Request;
 use second::fast::{draw, Pen};
 use second::setting::Setting;
 
@@ -44,3 +45,32 @@ pub unsafe extern "C" fn peer_draw(
 
 second::export!(peer_row, row);
 second::export!(peer_packed_row, packed_row);
+
+/// # Safety
+/// Both pointers have as many bytes as their lengths say, and those do not overlap.
+#[no_mangle]
+pub unsafe extern "C" fn peer_band(
+    w: u64,
+    p: u64,
+    q: u64,
+    path: *const u8,
+    path_length: usize,
+    columns: u64,
+    rows: u64,
+    first_row: u64,
+    n_rows: u64,
+    bytes: *mut u8,
+    bytes_length: usize,
+    stride: u64,
+) -> u64 {
+    let request = Request {
+        setting: Setting::new(w, p, q),
+        path: lent(path.cast_mut(), path_length),
+        columns,
+        rows,
+        first_row,
+        n_rows,
+        stride,
+    };
+    band(&request, lent(bytes, bytes_length))
+}

@@ -1,8 +1,9 @@
 //! The fast way behind the C boundary, for the stand-in library and for the
 //! benchmark.
 
-use crate::boundary::in_one_number;
+use crate::band;
 use crate::fast::Drawer;
+use crate::lending::in_one_number;
 use crate::row::Request;
 use std::cell::RefCell;
 
@@ -22,7 +23,7 @@ pub unsafe fn lent<'a>(pointer: *mut u8, length: usize) -> &'a mut [u8] {
     }
 }
 
-/// Exports one of the two functions under a name.
+/// Exports one of the two row functions under a name.
 #[macro_export]
 macro_rules! export {
     ($name:ident, $answer:ident) => {
@@ -60,4 +61,8 @@ pub fn row(request: &Request, runs: &mut [u8]) -> u64 {
 
 pub fn packed_row(request: &Request, bytes: &mut [u8]) -> u64 {
     DRAWER.with_borrow_mut(|drawer| in_one_number(drawer.packed_row(request, bytes)))
+}
+
+pub fn band(request: &band::Request, bytes: &mut [u8]) -> u64 {
+    DRAWER.with_borrow_mut(|drawer| in_one_number(drawer.band(request, bytes)))
 }

@@ -3,135 +3,12 @@
 
 use crate::calls::{some_call, Call};
 use crate::kinds::{Kinds, Outcome};
-use crate::row::Answer;
-use crate::stream::Sequence;
+use crate::lending::{compare_calls, Compared, Guards};
 
 /// The form of both functions: w, p, q, path and its length, columns, rows,
 /// row, what is lent and its length.
 pub type Function =
     unsafe extern "C" fn(u64, u64, u64, *const u8, usize, u64, u64, u64, *mut u8, usize) -> u64;
-
-/// "bits 0-7 the refusal, bits 8-31 the place, bits 32-63 the number of runs
-/// (of bytes filled, for the packed row)".
-pub fn in_one_number(answer: Answer) -> u64 {
-    answer.refusal as u64 | answer.place << 8 | (answer.count as u64) << 32
-}
-
-fn show(answer: u64) -> String {
-    format!(
-        "refusal {}, place {}, count {}",
-        answer & 0xFF,
-        answer >> 8 & 0xFF_FFFF,
-        answer >> 32
-    )
-}
-
-/// What stands on both sides of what is lent.
-#[derive(Clone, Copy)]
-pub enum Guards {
-    /// Bytes that must stay as they are.
-    Bytes,
-    /// Nothing: it is a piece of memory of its own, whose ends a checker of
-    /// memory knows, so that reading beyond them is seen too.
-    None,
-}
-
-/// Bytes of which a part is lent; the others guard it.
-struct Guarded {
-    bytes: Vec<u8>,
-    before: usize,
-    length: usize,
-}
-
-impl Guarded {
-    /// Guards of different lengths, so that what is lent starts at any address.
-    fn new(sequence: &mut Sequence, length: usize, guards: Guards) -> Guarded {
-        let mut guard = || match guards {
-            Guards::Bytes => 16 + sequence.below(16) as usize,
-            Guards::None => 0,
-        };
-        let (before, after) = (guard(), guard());
-        let pattern = sequence.next().to_le_bytes();
-        let bytes = (0..before + length + after).map(|i| pattern[i % 8] ^ (i / 8) as u8);
-        Guarded {
-            bytes: bytes.collect(),
-            before,
-            length,
-        }
-    }
-
-    fn lent(&mut self) -> &mut [u8] {
-        &mut self.bytes[self.before..self.before + self.length]
-    }
-
-    fn pointer(&mut self, null: bool) -> *mut u8 {
-        if null && self.length == 0 {
-            std::ptr::null_mut()
-        } else {
-            self.lent().as_mut_ptr()
-        }
-    }
-}
-
-/// Makes one call and compares all of it. Gives back the answer and what was
-/// lent, or what differs.
-fn one(
-    function: Function,
-    call: &Call,
-    own_answer: impl Fn(&Call, &mut [u8]) -> Answer,
-    sequence: &mut Sequence,
-    guards: Guards,
-) -> Result<(Answer, Vec<u8>), String> {
-    let mut path = Guarded::new(sequence, call.path.len(), guards);
-    path.lent().copy_from_slice(&call.path);
-    let mut room = Guarded::new(sequence, call.length, guards);
-    let path_before = path.bytes.clone();
-    let mut expected = room.bytes.clone();
-
-    let lent = room.before..room.before + room.length;
-    let own = own_answer(call, &mut expected[lent.clone()]);
-    // Sound as far as the function keeps to what it is lent: both slices are
-    // live, as long as is said, and apart from each other.
-    let foreign = unsafe {
-        function(
-            call.setting.w,
-            call.setting.p,
-            call.setting.q,
-            path.pointer(call.null),
-            path.length,
-            call.columns,
-            call.rows,
-            call.row,
-            room.pointer(call.null),
-            room.length,
-        )
-    };
-
-    if foreign != in_one_number(own) {
-        return Err(format!(
-            "the answers differ\n own answer     {}\n foreign answer {}",
-            show(in_one_number(own)),
-            show(foreign)
-        ));
-    }
-    if path.bytes != path_before {
-        return Err("the path was changed, or what is next to it".to_string());
-    }
-    if let Some(at) = (0..expected.len()).find(|&i| room.bytes[i] != expected[i]) {
-        let what = match lent.contains(&at) {
-            true => "differs",
-            false => "does not belong to it and is changed",
-        };
-        return Err(format!(
-            "{} bytes were lent; byte {} {what}\n own bytes     {:?}\n foreign bytes {:?}",
-            room.length,
-            at as i64 - room.before as i64,
-            &expected[lent.clone()],
-            &room.bytes[lent]
-        ));
-    }
-    Ok((own, room.lent().to_vec()))
-}
 
 /// Makes many calls. The line for a full agreement, or the first difference
 /// with the whole call.
@@ -142,21 +19,31 @@ pub fn test(
     seed: u64,
     guards: Guards,
 ) -> Result<String, String> {
-    let mut sequence = Sequence::new(seed);
+    // Sound as far as the functions keep to what they are lent.
+    let foreign = |call: &Call, path, path_len, room, room_len| unsafe {
+        let function = if call.packed { packed } else { row };
+        function(
+            call.setting.w,
+            call.setting.p,
+            call.setting.q,
+            path,
+            path_len,
+            call.columns,
+            call.rows,
+            call.row,
+            room,
+            room_len,
+        )
+    };
     let mut refusals = [0u64; 8];
     let mut kinds = Kinds::default();
     let (mut rows, mut with_black, mut large, mut fast) = (0, 0, 0, 0);
-    for i in 0..count {
-        let call = some_call(&mut sequence);
-        let function = if call.packed { packed } else { row };
-        let literally = call.literally(&mut sequence);
-        let own = if literally { Call::literal } else { Call::fast };
-        let (answer, lent) = one(function, &call, own, &mut sequence, guards)
-            .map_err(|difference| format!("call {i} of seed {seed}: {call}\n{difference}"))?;
+    let equal = |call: &Call, literally: bool, compared: Compared| {
+        let Compared { answer, after, .. } = compared;
         let outcome = Outcome {
-            call: &call,
+            call,
             answer,
-            lent: &lent,
+            lent: &after,
         };
         kinds.count(&outcome);
         refusals[answer.refusal as usize] += 1;
@@ -164,7 +51,8 @@ pub fn test(
         with_black += u64::from(outcome.black());
         large += u64::from(call.is_large());
         fast += u64::from(!literally);
-    }
+    };
+    compare_calls(count, seed, guards, some_call, foreign, equal)?;
     let counts: Vec<String> = [0, 1, 2, 3, 4, 5, 7]
         .iter()
         .map(|&refusal| format!("{refusal}: {}", refusals[refusal]))
@@ -181,17 +69,14 @@ pub fn test(
 mod tests {
     use super::*;
     use crate::fast::Drawer;
-    use crate::pen;
-    use crate::row::{check_all_but_setting, done, refused, Request};
+    use crate::lending::in_one_number;
+    use crate::row::{done, refused, Answer, Request};
     use crate::setting::Setting;
-    use crate::sweep::{centre, kept, Point, Sweep};
+    use crate::side_faults::*;
+    use crate::sweep::{centre, kept, Point};
 
-    /// Ways to be wrong. `Good` is none.
+    /// Ways to be wrong, beside those of the sides. `GOOD` is none.
     const GOOD: u8 = 0;
-    const KEEPS_LEFT_SIDES: u8 = 1;
-    const KEEPS_FLAT_BOTTOMS: u8 = 2;
-    const KEEPS_ALL_SIDES: u8 = 3;
-    const WRITES_PAST_THE_END: u8 = 4;
     const WRITES_BEFORE_THE_START: u8 = 5;
     const WRITES_THE_TAIL: u8 = 6;
     const WRITES_ON_REFUSAL: u8 = 7;
@@ -205,18 +90,10 @@ mod tests {
     const ROOM_FIRST: u8 = 15;
     const ONE_PAST_A_LIMIT: u8 = 16;
     const WRITES_NOTHING: u8 = 17;
-    const DROPS_FLAT_SIDES: u8 = 18;
+    const WRITES_PAST_THE_END: u8 = 18;
 
     fn columns_if_kept(request: &Request, kept: fn(Point) -> bool) -> Vec<u64> {
-        let pen = pen::whole(&pen::quarter(&request.setting).unwrap());
-        let path = check_all_but_setting(request).unwrap();
-        let points: Vec<Point> = path
-            .chunks(2)
-            .map(|pair| (pair[0] as i128, pair[1] as i128))
-            .collect();
-        let last = points[points.len() - 1];
-        let ends = points.iter().zip(points.iter().skip(1).chain([&last]));
-        let sweeps: Vec<Sweep> = ends.map(|(&a, &b)| Sweep::new(&pen, a, b)).collect();
+        let sweeps = sweeps(&request.setting, request.path);
         let black = |&column: &u64| {
             let x = centre(column as i128, request.row as i128);
             sweeps.iter().any(|sweep| sweep.black_if_kept(x, kept))
@@ -248,13 +125,9 @@ mod tests {
         if request.columns > 64 || request.path.len() > 8 * 100 {
             return None;
         }
-        let rule: fn(Point) -> bool = match fault {
-            KEEPS_LEFT_SIDES => |n| n.0 < 0 || (n.0 == 0 && n.1 > 0),
-            KEEPS_FLAT_BOTTOMS => |n| n.0 > 0 || (n.0 == 0 && n.1 < 0),
-            KEEPS_ALL_SIDES => |_| true,
-            DROPS_FLAT_SIDES => |n| n.0 > 0,
+        let rule = match fault {
             KEEPS_TOUCHING_RUNS_APART => kept,
-            _ => return None,
+            _ => rule(fault)?,
         };
         let columns = columns_if_kept(request, rule);
         Some(put_runs(&columns, fault == KEEPS_TOUCHING_RUNS_APART, list))

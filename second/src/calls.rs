@@ -5,6 +5,7 @@
 
 use crate::fast::Drawer;
 use crate::large::{self, coordinates, Drawing};
+use crate::lending::{Before, Lending, Tried};
 use crate::row::{packed_row, path_bytes, row_answer, Answer, Request};
 use crate::segments::{between, some_setting, some_step, some_way, LIMIT};
 use crate::setting::Setting;
@@ -43,23 +44,6 @@ impl Call {
         }
     }
 
-    /// The answer in the literal way.
-    pub fn literal(&self, lent: &mut [u8]) -> Answer {
-        match self.packed {
-            true => packed_row(&self.request(), lent),
-            false => row_answer(&self.request(), lent),
-        }
-    }
-
-    /// The answer in the fast way.
-    pub fn fast(&self, lent: &mut [u8]) -> Answer {
-        let mut drawer = Drawer::default();
-        match self.packed {
-            true => drawer.packed_row(&self.request(), lent),
-            false => drawer.row_answer(&self.request(), lent),
-        }
-    }
-
     /// How often the literal way asks a segment about a column; not at all where
     /// it refuses the film.
     fn questions(&self) -> u64 {
@@ -72,11 +56,36 @@ impl Call {
     pub fn is_large(&self) -> bool {
         self.questions() > MOST_QUESTIONS
     }
+}
 
-    /// Whether the literal way is to decide: small calls always, large ones the
-    /// more rarely the larger they are, so that each costs 10,000 questions in the
-    /// mean. The largest would take minutes under valgrind.
-    pub fn literally(&self, sequence: &mut Sequence) -> bool {
+impl Tried for Call {
+    fn lending(&self) -> Lending<'_> {
+        Lending {
+            path: &self.path,
+            length: self.length,
+            before: Before::Mixed,
+            null: self.null,
+        }
+    }
+
+    fn literal(&self, lent: &mut [u8]) -> Answer {
+        match self.packed {
+            true => packed_row(&self.request(), lent),
+            false => row_answer(&self.request(), lent),
+        }
+    }
+
+    fn fast(&self, lent: &mut [u8]) -> Answer {
+        let mut drawer = Drawer::default();
+        match self.packed {
+            true => drawer.packed_row(&self.request(), lent),
+            false => drawer.row_answer(&self.request(), lent),
+        }
+    }
+
+    /// Small calls always, large ones the more rarely the larger they are, so that each
+    /// costs 10,000 questions in the mean. The largest would take minutes under valgrind.
+    fn literally(&self, sequence: &mut Sequence) -> bool {
         let questions = self.questions();
         !self.is_large() || (questions < 2_000_000 && sequence.below(questions) < 10_000)
     }
@@ -90,11 +99,6 @@ impl fmt::Display for Call {
             true => "zimarolfo_packed_row",
         };
         let (w, p, q) = (self.setting.w, self.setting.p, self.setting.q);
-        let fours = self.path.chunks_exact(4);
-        let left_over = fours.remainder();
-        let coordinates: Vec<i32> = fours
-            .map(|four| i32::from_le_bytes([four[0], four[1], four[2], four[3]]))
-            .collect();
         write!(
             f,
             "{name}: w {w}, p {p}, q {q}, columns {}, rows {}, row {}, room of {} bytes, path of {} bytes",
@@ -104,15 +108,25 @@ impl fmt::Display for Call {
             self.length,
             self.path.len()
         )?;
-        if self.null {
-            write!(f, ", null for length 0")?;
-        }
-        write!(f, "\n path {coordinates:?}")?;
-        if !left_over.is_empty() {
-            write!(f, " and the bytes {left_over:?}")?;
-        }
-        Ok(())
+        show_path(f, &self.path, self.null)
     }
+}
+
+/// The end of a call that is shown: its path, after whether null stands for no bytes.
+pub(crate) fn show_path(f: &mut fmt::Formatter, path: &[u8], null: bool) -> fmt::Result {
+    let fours = path.chunks_exact(4);
+    let left_over = fours.remainder();
+    let coordinates: Vec<i32> = fours
+        .map(|four| i32::from_le_bytes([four[0], four[1], four[2], four[3]]))
+        .collect();
+    if null {
+        write!(f, ", null for length 0")?;
+    }
+    write!(f, "\n path {coordinates:?}")?;
+    if !left_over.is_empty() {
+        write!(f, " and the bytes {left_over:?}")?;
+    }
+    Ok(())
 }
 
 /// Numbers that are out of most limits, and such as come back into them in
@@ -154,7 +168,7 @@ pub(crate) fn bad_setting(sequence: &mut Sequence) -> Setting {
     }
 }
 
-fn within(sequence: &mut Sequence, most: u64) -> u64 {
+pub(crate) fn within(sequence: &mut Sequence, most: u64) -> u64 {
     match sequence.below(6) {
         0 => most,
         1 => 1,
@@ -261,7 +275,7 @@ pub(crate) fn bad_coordinate(sequence: &mut Sequence) -> i32 {
 }
 
 /// A path's bytes made bad in their number.
-fn spoil_length(sequence: &mut Sequence, path: &mut Vec<u8>) {
+pub(crate) fn spoil_length(sequence: &mut Sequence, path: &mut Vec<u8>) {
     let longest = 4 * 8_192;
     match sequence.below(60) {
         0 => path.resize(longest + [1, 4, 7, 8][sequence.below(4) as usize], 0),
@@ -270,6 +284,47 @@ fn spoil_length(sequence: &mut Sequence, path: &mut Vec<u8>) {
         n if n < 20 => path.clear(),
         n if n < 40 => path.truncate(path.len() - 4),
         _ => path.truncate(path.len() - [1, 2, 3, 5, 6, 7][sequence.below(6) as usize]),
+    }
+}
+
+/// A film's columns, or its rows, made too many or none.
+pub(crate) fn spoil_size(sequence: &mut Sequence, columns: &mut u64, rows: &mut u64) {
+    let size = match sequence.below(4) {
+        0 => 0,
+        1 => 16_385,
+        2 => 16_385 + sequence.below(20),
+        _ => far_number(sequence).max(16_385),
+    };
+    match sequence.below(2) {
+        0 => *columns = size,
+        _ => *rows = size,
+    }
+}
+
+/// The refusals that one to three faults are for. What is wrong with a large call is
+/// mostly what its size makes possible.
+pub(crate) fn some_faults(
+    sequence: &mut Sequence,
+    large: bool,
+    of_large: &[u8],
+    of_all: &[u8],
+) -> Vec<u8> {
+    let count = 1 + sequence.below(3);
+    let mut some_fault = || {
+        let refusals = match large && sequence.below(4) > 0 {
+            true => of_large,
+            false => of_all,
+        };
+        refusals[sequence.below(refusals.len() as u64) as usize]
+    };
+    (0..count).map(|_| some_fault()).collect()
+}
+
+/// How many rows a film has: mostly few.
+pub(crate) fn some_rows(sequence: &mut Sequence) -> u64 {
+    match sequence.below(4) {
+        0 => within(sequence, 16_384),
+        _ => within(sequence, 40),
     }
 }
 
@@ -315,7 +370,7 @@ fn some_length(
     }
 }
 
-fn small_drawing(sequence: &mut Sequence, row: u64) -> Drawing {
+pub(crate) fn small_drawing(sequence: &mut Sequence, row: u64) -> Drawing {
     let mut setting = some_setting(sequence);
     let mut columns = some_columns(sequence);
     let coordinates = match sequence.below(4) {
@@ -344,10 +399,7 @@ fn runs_of(drawing: &Drawing, row: u64) -> u64 {
 
 pub fn some_call(sequence: &mut Sequence) -> Call {
     let packed = sequence.below(2) == 0;
-    let mut rows = match sequence.below(4) {
-        0 => within(sequence, 16_384),
-        _ => within(sequence, 40),
-    };
+    let mut rows = some_rows(sequence);
     let mut row = match sequence.below(6) {
         0 => rows - 1,
         _ => sequence.below(rows),
@@ -364,16 +416,10 @@ pub fn some_call(sequence: &mut Sequence) -> Call {
         mut coordinates,
     } = drawing;
 
-    let mut faults = Vec::new();
-    if sequence.below(10) < 4 {
-        for _ in 0..=sequence.below(3) {
-            // What is wrong with a large call is mostly what its size makes possible.
-            faults.push(match large && sequence.below(4) > 0 {
-                true => [3, 7][sequence.below(2) as usize],
-                false => [1, 2, 4, 5, 3, 7, 7, 7][sequence.below(8) as usize],
-            });
-        }
-    }
+    let faults = match sequence.below(10) {
+        0..=3 => some_faults(sequence, large, &[3, 7], &[1, 2, 4, 5, 3, 7, 7, 7]),
+        _ => Vec::new(),
+    };
     let has = |fault: u8| faults.contains(&fault);
     if has(3) {
         for _ in 0..=sequence.below(2) {
@@ -399,16 +445,7 @@ pub fn some_call(sequence: &mut Sequence) -> Call {
         };
     }
     if has(4) {
-        let size = match sequence.below(4) {
-            0 => 0,
-            1 => 16_385,
-            2 => 16_385 + sequence.below(20),
-            _ => far_number(sequence).max(16_385),
-        };
-        match sequence.below(2) {
-            0 => columns = size,
-            _ => rows = size,
-        }
+        spoil_size(sequence, &mut columns, &mut rows);
     }
     let length = some_length(sequence, packed, columns, runs, has(7));
     Call {

@@ -1,8 +1,9 @@
 //! The obvious fast way to the same pixels, as a peer for the benchmark: for a
 //! segment and a row, each side leaves the columns on its inner side, found by
 //! one floor division; what all sides leave is the segment's stretch. The tests
-//! hold it to the literal way of `sweep.rs` and `row.rs`.
+//! hold it to the literal way of `sweep.rs`, `row.rs` and `band.rs`.
 
+use crate::band;
 use crate::pen;
 use crate::row::{self, Answer, Request};
 use crate::setting::Setting;
@@ -160,23 +161,40 @@ fn fill(line: &mut [u8], first: i64, last: i64) {
 /// bytes to a row as it needs.
 pub fn draw(pen: &Pen, path: &[u8], columns: usize, rows: usize, film: &mut [u8]) {
     let stride = columns.div_ceil(8);
+    draw_rows(pen, path, columns as i64, (0, rows as i64), stride, film);
+}
+
+/// The rows from the first to below the end, the top one first, each so many
+/// bytes after the one above it.
+fn draw_rows(
+    pen: &Pen,
+    path: &[u8],
+    columns: i64,
+    (first_row, end): (i64, i64),
+    stride: usize,
+    bytes: &mut [u8],
+) {
     let mut sides = Vec::with_capacity(pen.edges.len() + 2);
     for (a, b) in segments(path) {
         let (low, high) = pen.rows(a, b);
+        let (low, high) = (low.max(first_row), high.min(end - 1));
+        if low > high {
+            continue;
+        }
         pen.sides(a, b, &mut sides);
-        for row in low.max(0)..=high.min(rows as i64 - 1) {
+        for row in low..=high {
             if let Some((first, last)) = extent(&sides, row) {
-                let (first, last) = (first.max(0), last.min(columns as i64 - 1));
+                let (first, last) = (first.max(0), last.min(columns - 1));
                 if first <= last {
-                    let at = (rows - 1 - row as usize) * stride;
-                    fill(&mut film[at..at + stride], first, last);
+                    let at = (end - 1 - row) as usize * stride;
+                    fill(&mut bytes[at..at + stride], first, last);
                 }
             }
         }
     }
 }
 
-/// The row calls in the fast way; the pen last built is kept.
+/// The calls in the fast way; the pen last built is kept.
 #[derive(Default)]
 pub struct Drawer {
     pen: Option<Pen>,
@@ -184,13 +202,16 @@ pub struct Drawer {
 }
 
 impl Drawer {
-    fn runs(&mut self, request: &Request) -> Result<&[(i64, i64)], Answer> {
-        if self.pen.as_ref().map(|pen| pen.setting) != Some(request.setting) {
-            let Some(pen) = Pen::new(request.setting) else {
-                return Err(row::refused(1, 0));
-            };
-            self.pen = Some(pen);
+    /// Refusal 1 where there is no pen.
+    fn build(&mut self, setting: Setting) -> Result<(), Answer> {
+        if self.pen.as_ref().map(|pen| pen.setting) != Some(setting) {
+            self.pen = Some(Pen::new(setting).ok_or(row::refused(1, 0))?);
         }
+        Ok(())
+    }
+
+    fn runs(&mut self, request: &Request) -> Result<&[(i64, i64)], Answer> {
+        self.build(request.setting)?;
         row::check_all_but_setting(request)?;
         if let Some(pen) = &self.pen {
             let (columns, row) = (request.columns as i64, request.row as i64);
@@ -230,6 +251,20 @@ impl Drawer {
         }
         row::done(length)
     }
+
+    pub fn band(&mut self, request: &band::Request, bytes: &mut [u8]) -> Answer {
+        let checked = band::check(request, bytes.len());
+        if let Err(answer) = checked.and_then(|()| self.build(request.setting)) {
+            return answer;
+        }
+        if let Some(pen) = &self.pen {
+            let first = request.first_row as i64;
+            let rows = (first, first + request.n_rows as i64);
+            let (columns, stride) = (request.columns as i64, request.stride as usize);
+            draw_rows(pen, request.path, columns, rows, stride, bytes);
+        }
+        row::done(request.n_rows as usize)
+    }
 }
 
 #[cfg(test)]
@@ -238,6 +273,7 @@ mod tests {
     use crate::calls::{some_call, Call};
     use crate::extent;
     use crate::large::{self, Drawing};
+    use crate::lending::Tried;
     use crate::pbm::{self, Stroke};
     use crate::segments::random_segments;
     use crate::stream::Sequence;

@@ -44,7 +44,7 @@ pub fn coordinates(points: &[Point]) -> Vec<i32> {
 }
 
 /// A number of any magnitude.
-fn some_size(sequence: &mut Sequence, least: i64, most: i64) -> i64 {
+pub(crate) fn some_size(sequence: &mut Sequence, least: i64, most: i64) -> i64 {
     let halvings = (most / least).ilog2() as u64 + 1;
     let top = most >> sequence.below(halvings);
     between(sequence, least, top.max(least))

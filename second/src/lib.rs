@@ -1,7 +1,12 @@
 //! The second program as a library: a literal, slow reading of document 01, and of
-//! W1, W2, W4 and W7 in document 02, to compare the drawer with. `main.rs` has its commands.
+//! W1, W2, W4 and W7 in document 02, and of the band from its header, to compare the drawer
+//! with. `main.rs` has its commands.
 
 pub mod abi;
+pub mod band;
+pub mod band_boundary;
+pub mod band_calls;
+pub mod band_kinds;
 pub mod boundary;
 pub mod calls;
 pub mod engine;
@@ -14,6 +19,7 @@ pub mod gerber_cases;
 pub mod gerber_compare;
 pub mod kinds;
 pub mod large;
+pub mod lending;
 pub mod overlay;
 pub mod overlay_pairs;
 pub mod paper;
@@ -25,6 +31,8 @@ pub mod row;
 pub mod row_times;
 pub mod segments;
 pub mod setting;
+#[cfg(test)]
+mod side_faults;
 pub mod stream;
 pub mod sweep;
 pub mod table;

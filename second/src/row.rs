@@ -57,18 +57,29 @@ fn coordinates(path: &[u8]) -> Option<Vec<i32>> {
 
 /// The path's coordinates, or the first refusal of 2, 4, 5, 3.
 pub fn check_all_but_setting(request: &Request) -> Result<Vec<i32>, Answer> {
-    let Some(path) = coordinates(request.path) else {
+    let (columns, rows) = (request.columns, request.rows);
+    check_path_and_raster(request.path, columns, rows, request.row < rows)
+}
+
+/// The same for any rows; whether those asked for are there is told.
+pub fn check_path_and_raster(
+    path: &[u8],
+    columns: u64,
+    rows: u64,
+    there: bool,
+) -> Result<Vec<i32>, Answer> {
+    let Some(path) = coordinates(path) else {
         return Err(refused(2, 0));
     };
     if path.is_empty() || path.len() % 2 != 0 || path.len() > 8_192 {
         return Err(refused(2, 0));
     }
-    for size in [request.columns, request.rows] {
+    for size in [columns, rows] {
         if !(1..=16_384).contains(&size) {
             return Err(refused(4, 0));
         }
     }
-    if request.row >= request.rows {
+    if !there {
         return Err(refused(5, 0));
     }
     for (index, coordinate) in path.iter().enumerate() {

@@ -3,7 +3,8 @@
 //! program. With `exact`, what is lent stands without guard bytes, each slice a
 //! piece of memory of its own, for a checker of memory.
 
-use second::boundary::{test, Guards};
+use second::boundary::test;
+use second::lending::program;
 use std::process::ExitCode;
 
 extern "C" {
@@ -34,29 +35,7 @@ extern "C" {
 }
 
 fn main() -> ExitCode {
-    let arguments: Vec<String> = std::env::args().skip(1).collect();
-    let words: Vec<&str> = arguments.iter().map(String::as_str).collect();
-    let (count, seed, guards) = match words[..] {
-        [count, seed] => (count.parse(), seed.parse(), Guards::Bytes),
-        [count, seed, "exact"] => (count.parse(), seed.parse(), Guards::None),
-        _ => return usage(),
-    };
-    let (Ok(count), Ok(seed)) = (count, seed) else {
-        return usage();
-    };
-    match test(zimarolfo_row, zimarolfo_packed_row, count, seed, guards) {
-        Ok(line) => {
-            println!("{line}");
-            ExitCode::SUCCESS
-        }
-        Err(difference) => {
-            println!("{difference}");
-            ExitCode::FAILURE
-        }
-    }
-}
-
-fn usage() -> ExitCode {
-    eprintln!("usage: boundary-test N SEED [exact]");
-    ExitCode::from(2)
+    program("boundary-test", |count, seed, guards| {
+        test(zimarolfo_row, zimarolfo_packed_row, count, seed, guards)
+    })
 }
