@@ -1,9 +1,10 @@
 /*
  * bands FILM OUTPUT
  *
- * Draws a film in two processes, a band of rows each, puts the bands together and
- * compares them with the film drawn in one process: byte for byte the same. Then
- * it writes the film as a raw PBM file. "-" is standard input, or output.
+ * Draws a film in two processes, a band of rows each, and compares it with the film
+ * drawn in one process, as one band: byte for byte the same. Then it writes the film
+ * as a raw PBM file. "-" is standard input, or output. A stroke is one call for each
+ * band. Link libhost_band.a and libhost.a.
  *
  * FILM is a text file in ASCII or UTF-8. The first line is `film COLUMNS ROWS`; each
  * further one is a stroke, `stroke W P Q X Y X Y ...`, in the numbers of zimarolfo.h.
@@ -20,7 +21,7 @@
 #define _POSIX_C_SOURCE 200809L
 #define _DEFAULT_SOURCE /* MAP_ANONYMOUS */
 
-#include "zimarolfo.h"
+#include "zimarolfo_band.h"
 
 #include <errno.h>
 #include <inttypes.h>
@@ -48,7 +49,6 @@ struct stroke {
     uint8_t *path;
     size_t path_len;
     unsigned long line;
-    bool leaves_pixels;
     /* The rows that the pen may reach, within the film: from first to below end. */
     uint64_t first_row, end_row;
 };
@@ -187,14 +187,15 @@ static enum status read_film_line(struct film *film, unsigned long line, char *r
 }
 
 /*
- * Asks for row 0 with no room: a good stroke is then refused with 7, and only with
- * that, so that each stroke's fault is known, with its line, before anything is drawn.
+ * Asks for the whole film with no room: a good stroke is then refused with 7, and only
+ * with that, so that each stroke's fault is known, with its line, before anything is
+ * drawn.
  */
 static enum status check_stroke(const struct film *film, const struct stroke *stroke)
 {
-    uint64_t answer = zimarolfo_packed_row(stroke->w, stroke->p, stroke->q, stroke->path,
-                                           stroke->path_len, film->columns, film->rows, 0,
-                                           NULL, 0);
+    uint64_t answer = zimarolfo_band(stroke->w, stroke->p, stroke->q, stroke->path,
+                                     stroke->path_len, film->columns, film->rows, 0, film->rows,
+                                     NULL, 0, film->row_len);
     unsigned refusal = zimarolfo_refusal(answer);
     if (refusal == ZIMAROLFO_NO_ROOM)
         return DONE;
@@ -214,8 +215,8 @@ static int64_t pixels_down(int64_t a)
 }
 
 /*
- * The pen of a good setting is exactly floor((w + 8) / 16) pixels high, so rows
- * further than half of that from all points need not be asked for.
+ * The pen of a good setting is exactly floor((w + 8) / 16) pixels high, so a stroke
+ * leaves no pixel in rows further than half of that from all its points.
  */
 static void find_reach(const struct film *film, struct stroke *stroke, int32_t lowest,
                        int32_t highest)
@@ -396,7 +397,7 @@ static enum status catch_signals(void)
 
 /* -------------------------------------------------------------------- progress */
 
-/* A band's rows, each counted once for each stroke that may reach it. */
+/* The strokes that are laid over a band. */
 struct work {
     uint64_t total, done;
 };
@@ -468,95 +469,53 @@ static void end(const struct progress *progress)
 
 /* --------------------------------------------------------------------- drawing */
 
-/* The rows from `from` to below `to`, and how far they are drawn. */
+/* Rows of the film, from the first to below the end, and how far they are drawn. */
 struct band {
     uint64_t from, to;
     struct work *work;
 };
 
-/* A stroke's rows in a band. */
-static uint64_t first_in(const struct band *band, const struct stroke *stroke)
-{
-    return stroke->first_row > band->from ? stroke->first_row : band->from;
-}
-
-static uint64_t end_in(const struct band *band, const struct stroke *stroke)
-{
-    return stroke->end_row < band->to ? stroke->end_row : band->to;
-}
-
 static struct band make_band(const struct film *film, uint64_t from, uint64_t to, struct work *work)
 {
-    struct band band = {.from = from, .to = to, .work = work};
-    work->total = work->done = 0;
-    for (size_t i = 0; i < film->count; i++) {
-        uint64_t first = first_in(&band, &film->strokes[i]);
-        uint64_t end_row = end_in(&band, &film->strokes[i]);
-        work->total += first < end_row ? end_row - first : 0;
-    }
-    return band;
-}
-
-/* Lays a row over another one; whether it has black pixels. */
-static bool lay(uint8_t *line, const uint8_t *packed, size_t length)
-{
-    unsigned black = 0;
-    for (size_t i = 0; i < length; i++) {
-        line[i] |= packed[i];
-        black |= packed[i];
-    }
-    return black != 0;
+    work->total = film->count;
+    work->done = 0;
+    return (struct band){.from = from, .to = to, .work = work};
 }
 
 /*
- * Draws a row of a stroke into the picture of the whole film, which is in the order of
+ * Lays a stroke over a band in the picture of the whole film, which is in the order of
  * the file: the top row, that is the last one, comes first.
  */
-static enum status draw_row(const struct film *film, struct stroke *stroke, uint64_t row,
-                            uint8_t *packed, uint8_t *picture)
+static enum status draw_stroke(const struct film *film, const struct stroke *stroke,
+                               const struct band *band, uint8_t *picture)
 {
-    uint64_t answer = zimarolfo_packed_row(stroke->w, stroke->p, stroke->q, stroke->path,
-                                           stroke->path_len, film->columns, film->rows, row,
-                                           packed, film->row_len);
-    if (zimarolfo_refusal(answer) != ZIMAROLFO_DONE || zimarolfo_count(answer) != film->row_len) {
-        begin_line_complaint(film, stroke->line);
-        fprintf(stderr, "row %" PRIu64 ": refusal %u after a good check\n", row,
-                zimarolfo_refusal(answer));
-        return DIFFERENT;
-    }
-    if (lay(picture + (size_t)(film->rows - 1 - row) * film->row_len, packed, film->row_len))
-        stroke->leaves_pixels = true;
-    return DONE;
+    uint64_t rows = band->to - band->from;
+    uint8_t *top = picture + (size_t)(film->rows - band->to) * film->row_len;
+    uint64_t answer = zimarolfo_band(stroke->w, stroke->p, stroke->q, stroke->path,
+                                     stroke->path_len, film->columns, film->rows, band->from, rows,
+                                     top, (size_t)rows * film->row_len, film->row_len);
+    if (zimarolfo_refusal(answer) == ZIMAROLFO_DONE && zimarolfo_count(answer) == rows)
+        return DONE;
+    begin_line_complaint(film, stroke->line);
+    fprintf(stderr, "rows %" PRIu64 " to %" PRIu64 ": refusal %u after a good check\n", band->from,
+            band->to - 1, zimarolfo_refusal(answer));
+    return DIFFERENT;
 }
 
-/* Tells its progress unless that is NULL. */
-static enum status draw_stroke(const struct film *film, struct stroke *stroke,
-                               const struct band *band, uint8_t *packed, uint8_t *picture,
-                               struct progress *progress)
+/* Tells its progress unless that is NULL. The lower half of a film of one row is none. */
+static enum status draw(const struct film *film, const struct band *band, uint8_t *picture,
+                        struct progress *progress)
 {
-    uint64_t end_row = end_in(band, stroke);
-    for (uint64_t row = first_in(band, stroke); row < end_row; row++) {
-        enum status status = draw_row(film, stroke, row, packed, picture);
+    for (size_t i = 0; i < film->count; i++) {
+        enum status status =
+            band->from < band->to ? draw_stroke(film, &film->strokes[i], band, picture) : DONE;
         if (status != DONE)
             return status;
-        __atomic_store_n(&band->work->done, band->work->done + 1, __ATOMIC_RELAXED);
+        __atomic_store_n(&band->work->done, i + 1, __ATOMIC_RELAXED);
         if (progress != NULL)
             tell(progress);
     }
     return DONE;
-}
-
-static enum status draw(struct film *film, const struct band *band, uint8_t *picture,
-                        struct progress *progress)
-{
-    uint8_t *packed = malloc(film->row_len);
-    if (packed == NULL)
-        return system_failed("no memory for a row");
-    enum status status = DONE;
-    for (size_t i = 0; i < film->count && status == DONE; i++)
-        status = draw_stroke(film, &film->strokes[i], band, packed, picture, progress);
-    free(packed);
-    return status;
 }
 
 /* ------------------------------------------------------------------- two bands */
@@ -573,7 +532,7 @@ struct shared {
  * Draws the upper band. A parent that is killed cannot end its child, so the system
  * does; one that was gone before that was asked for has left the child to another.
  */
-static enum status run_child(struct film *film, const struct band *band, uint8_t *picture,
+static enum status run_child(const struct film *film, const struct band *band, uint8_t *picture,
                              pid_t parent)
 {
 #ifdef __linux__
@@ -623,7 +582,7 @@ static void stop_child(void)
 }
 
 /* A child draws the upper band, this process the lower one, into shared memory. */
-static enum status draw_in_two(struct film *film, struct shared *shared)
+static enum status draw_in_two(const struct film *film, struct shared *shared)
 {
     uint64_t seam = film->rows / 2;
     struct band lower = make_band(film, 0, seam, &shared->works[LOWER]);
@@ -660,17 +619,32 @@ static enum status compare(const struct film *film, const uint8_t *bands, const 
     return DONE;
 }
 
+/*
+ * Whether a stroke has a pixel on the film, even one that others have blackened. A row
+ * with black pixels is refused with 7 where there is no room for any run.
+ */
+static bool leaves_pixels(const struct film *film, const struct stroke *stroke)
+{
+    for (uint64_t row = stroke->first_row; row < stroke->end_row; row++) {
+        uint64_t answer = zimarolfo_row(stroke->w, stroke->p, stroke->q, stroke->path,
+                                        stroke->path_len, film->columns, film->rows, row, NULL, 0);
+        if (zimarolfo_refusal(answer) == ZIMAROLFO_NO_ROOM)
+            return true;
+    }
+    return false;
+}
+
 static void warn_of_idle_strokes(const struct film *film)
 {
     for (size_t i = 0; i < film->count; i++) {
-        if (film->strokes[i].leaves_pixels)
+        if (leaves_pixels(film, &film->strokes[i]))
             continue;
         begin_line_complaint(film, film->strokes[i].line);
         fputs("warning: this stroke leaves no pixel on the film\n", stderr);
     }
 }
 
-static enum status draw_in_one(struct film *film, const uint8_t *bands)
+static enum status draw_in_one(const struct film *film, const uint8_t *bands)
 {
     uint8_t *one = calloc((size_t)film->rows, film->row_len);
     if (one == NULL)
@@ -846,7 +820,7 @@ static enum status check_names(const char *input, const char *output)
     return BAD_FILM;
 }
 
-static enum status draw_film(struct film *film, const char *output)
+static enum status draw_film(const struct film *film, const char *output)
 {
     size_t length = sizeof(struct shared) + (size_t)film->rows * film->row_len;
     struct shared *shared =

@@ -1,7 +1,7 @@
 /*
  * Has the system fail the host program bands where the variable FAULT says so, to see
- * that it is told and that nothing is left behind. Linked together with faults.c, with a
- * -Wl,--wrap for each function.
+ * that it is told and that nothing is left behind. Linked with a -Wl,--wrap for each
+ * function.
  */
 #define _POSIX_C_SOURCE 200809L
 
