@@ -163,6 +163,21 @@ static void fill(uint8_t *line, unsigned left, unsigned right)
     line[to] |= (uint8_t)tail;
 }
 
+/* Ors a packed row into a film's, eight bytes at a time as far as there are eight. */
+static void lay(uint8_t *line, const uint8_t *packed, size_t length)
+{
+    size_t byte = 0;
+    for (; byte + 8 <= length; byte += 8) {
+        uint64_t old, black;
+        memcpy(&old, line + byte, 8);
+        memcpy(&black, packed + byte, 8);
+        old |= black;
+        memcpy(line + byte, &old, 8);
+    }
+    for (; byte < length; byte++)
+        line[byte] |= packed[byte];
+}
+
 /* One call for each stroke, over the whole film. */
 static void library_bands(const struct work *work, uint8_t *film, size_t n)
 {
@@ -215,9 +230,7 @@ static void library_packed(const struct work *work, uint8_t *film, size_t n)
                                                    row, packed, sizeof packed);
             if (zimarolfo_refusal(answer) != ZIMAROLFO_DONE)
                 give_up("a packed row was refused");
-            uint8_t *line = line_of(work, film, row);
-            for (size_t byte = 0; byte < work->row_len; byte++)
-                line[byte] |= packed[byte];
+            lay(line_of(work, film, row), packed, work->row_len);
         }
     }
 }
