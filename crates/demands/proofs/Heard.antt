@@ -23,12 +23,14 @@ use Rattle.checks.specs.declared.Answer.{Answer}
 use Rattle.checks.specs.Checks.{verdict}
 use Rattle.checks.specs.Answer.{Result, Offer, given}
 use Rattle.packed.specs.Packed.{packedOffer}
+use Rattle.band.specs.Band.{topRow, bandOffer}
 use Rattle.outcome.specs.Outcome.{lengthVerdict, hostVerdict, coded, told}
 use Rattle.outcome.specs.Fit.{Fit}
 use Rattle.outcome.proofs.Verdicts.{Small, small-verdict}
 use Rattle.outcome.proofs.Fits.{given-fit}
 use Rattle.host.specs.Host.{runBytesOffer}
 use Rattle.host.proofs.Outcomes.{runs-fit, bytes-fit}
+use Rattle.host_band.proofs.Fits.{counted-fit, rows-few}
 use Rattle.demands.specs.Reports.{heard}
 use Rattle.demands.specs.Demand1.{taken-apart}
 
@@ -63,3 +65,11 @@ module _ (σ : Setting) (bytes : List ℕ) (columns rows j : ℕ) where
 
   pub packed-apart : (b : List ℕ) → let g = given (hostVerdict σ bytes columns rows j) (packedOffer (pen σ) (entriesOf bytes) columns j b) in taken-apart (told g) ≡ g
   packed-apart b = apart-told _ (given-fit (hostVerdict σ bytes columns rows j) _ small-host (λ e. bytes-fit (entriesOf bytes) columns rows j (path-passed e)))
+
+-- a band's count is that of its rows, which a raster has
+pub band-apart : (σ : Setting) (bytes : List ℕ) (columns rows first n stride : ℕ) (b : List ℕ) →
+    let g = given (hostVerdict σ bytes columns rows (topRow rows first n)) (bandOffer (pen σ) (entriesOf bytes) columns first n stride b) in taken-apart (told g) ≡ g
+band-apart σ bytes columns rows first n stride b =
+    let j = topRow rows first n in
+    let few : hostVerdict σ bytes columns rows j ≡ Passed → n < 2 ^ 32 = λ e. omega (arith, rows-few (entriesOf bytes) columns rows first n (path-passed σ bytes columns rows j e)) in
+    apart-told _ (counted-fit (hostVerdict σ bytes columns rows j) _ (small-host σ bytes columns rows j) few)

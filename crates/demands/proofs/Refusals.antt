@@ -38,13 +38,15 @@ use Rattle.row.specs.Calls.{rowCall}
 use Rattle.row.proofs.Calls.{look-placed}
 use Rattle.packed.specs.Packed.{packedOffer, packResult, packedCall}
 use Rattle.band.specs.Band.{topRow, bandOffer, bandCall}
+use Rattle.band.specs.Refuses.{RefusesBand}
 use Rattle.band.proofs.Refusals.{refuses-band}
 use Rattle.records.specs.Theorems.{recordsOffer}
 use Rattle.records.proofs.Plain.{records-given}
 use Rattle.outcome.specs.Outcome.{lengthVerdict, hostVerdict}
 use Rattle.host.specs.Host.{runBytesOffer, hostRow, hostPackedRow}
-use Rattle.demands.specs.Demand1.{RowRefuses, RunsForRefuses, RecordsRefuses, PackedRefuses, PackedForRefuses, BandRefuses, BadBytes, taken-apart, HostRowRefuses, HostPackedRefuses}
-use Rattle.demands.proofs.Heard.{runs-apart, packed-apart}
+use Rattle.host_band.specs.HostBand.{hostBand}
+use Rattle.demands.specs.Demand1.{RowRefuses, RunsForRefuses, RecordsRefuses, PackedRefuses, PackedForRefuses, BandRefuses, BadBytes, taken-apart, HostRowRefuses, HostPackedRefuses, HostBandRefuses}
+use Rattle.demands.proofs.Heard.{runs-apart, packed-apart, band-apart}
 
 -- ---- a table's aperture, or a pen
 pub row-refuses : RowRefuses
@@ -119,3 +121,16 @@ unfolding hostPackedRow
 host-packed-refuses σ bytes columns rows j b =
     subst (Refuses 1 (BadSetting σ) (BadBytes bytes) (entriesOf bytes) columns rows j _ _ b) (sym (packed-apart σ bytes columns rows j b))
     (host-refuses σ bytes columns rows j (packedOffer (pen σ) (entriesOf bytes) columns j b))
+
+-- the band: what its checks and its offer refuse, and so the call
+pub host-given-refuses : (σ : Setting) (bytes : List ℕ) (columns rows first n stride : ℕ) (b : List ℕ) →
+    RefusesBand 1 (BadSetting σ) (BadBytes bytes) (entriesOf bytes) columns rows first n stride b
+    (given (hostVerdict σ bytes columns rows (topRow rows first n)) (bandOffer (pen σ) (entriesOf bytes) columns first n stride b))
+host-given-refuses σ bytes columns rows first n stride b =
+    refuses-band (host-refuses σ bytes columns rows (topRow rows first n) (bandOffer (pen σ) (entriesOf bytes) columns first n stride b))
+
+pub host-band-refuses : HostBandRefuses
+unfolding hostBand
+host-band-refuses σ bytes columns rows first n stride b =
+    subst (RefusesBand 1 (BadSetting σ) (BadBytes bytes) (entriesOf bytes) columns rows first n stride b) (sym (band-apart σ bytes columns rows first n stride b))
+    (host-given-refuses σ bytes columns rows first n stride b)

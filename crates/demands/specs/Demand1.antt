@@ -33,6 +33,7 @@ use Rattle.records.specs.declared.Run.{Run}
 use Rattle.records.specs.Records.{recordsCall}
 use Rattle.outcome.specs.Outcome.{Outcome}
 use Rattle.host.specs.Host.{hostRow, hostPackedRow}
+use Rattle.host_band.specs.HostBand.{hostBand}
 use Rattle.demands.specs.Reports.{heard}
 
 -- how many runs a row has for the corners of a pen
@@ -90,3 +91,9 @@ abbrev pub HostPackedRefuses : Type 0
 HostPackedRefuses =
     (σ : Setting) (bytes : List ℕ) (columns rows j : ℕ) (b : List ℕ) →
     Refuses 1 (BadSetting σ) (BadBytes bytes) (entriesOf bytes) columns rows j ((columns + 7) / 8) (length b) b (taken-apart (hostPackedRow σ bytes columns rows j b))
+
+-- a band: what `band::lay` refuses, and bytes that are no path's
+abbrev pub HostBandRefuses : Type 0
+HostBandRefuses =
+    (σ : Setting) (bytes : List ℕ) (columns rows first n stride : ℕ) (b : List ℕ) →
+    RefusesBand 1 (BadSetting σ) (BadBytes bytes) (entriesOf bytes) columns rows first n stride b (taken-apart (hostBand σ bytes columns rows first n stride b))

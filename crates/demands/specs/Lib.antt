@@ -1,7 +1,7 @@
 -- The demands, in their order.
 --   Reports   the calls that report a row's runs, and the runs that each reports
 --   Packs     the calls that pack a row
---   Bands     the call for a band of rows, and bands one after the other
+--   Bands     the calls for a band of rows, and bands one after the other
 --   Demand1   refusals
 --   Demand2   the black pixels
 --   Demand3   line weight

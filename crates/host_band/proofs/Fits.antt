@@ -27,7 +27,7 @@ use Rattle.outcome.proofs.Fits.{code-fit}
 use Rattle.outcome.proofs.Verdicts.{Small, small-then, small-setting, small-verdict}
 
 -- what a call answers fits one number, where its refusals are small and its count has 32 bits
-counted-fit : (v : Verdict) (o : Offer ℕ) → Small entriesMax v → (v ≡ Passed → o .count < 2 ^ 32) → Fit (given v o .answer)
+pub counted-fit : (v : Verdict) (o : Offer ℕ) → Small entriesMax v → (v ≡ Passed → o .count < 2 ^ 32) → Fit (given v o .answer)
 counted-fit (Refused n place) o s h = record { refusal = omega (arith, s .1); place = omega (arith, s .2); count = omega arith }
 counted-fit Passed o s h = go (leb (o .count) (o .space))
   where
@@ -48,7 +48,7 @@ top-in rows first n h = go (ltb 0 n && leb (first + n) rows) refl h
     go false e h = absurd (omega arith)
 
 -- so that a band has no more rows than a raster may have
-rows-few : (path : List ℤ) (columns rows first n : ℕ) → verdict path columns rows (topRow rows first n) ≡ Passed → n ≤ rasterMax
+pub rows-few : (path : List ℤ) (columns rows first n : ℕ) → verdict path columns rows (topRow rows first n) ≡ Passed → n ≤ rasterMax
 rows-few path columns rows first n e =
     let j = topRow rows first n in
     let a = then-both (pathVerdict path) (rasterVerdict columns rows then rowVerdict rows j then coordinateVerdict path) e in
