@@ -1,7 +1,7 @@
 -- The C functions' one number, taken apart, is the answer that it was made of: no part of it reaches into the next.
 use Prim.Native.Nat.{ℕ, _+_, _*_, _/_, _%_, _^_, _<_}
 use native.Mathlib.Omega.{arith}
-use mathlib.Core.Path.{_≡_, refl, sym, ap, _∙_}
+use mathlib.Core.Path.{_≡_, ap, _∙_}
 use mathlib.Core.Bool.{Bool, true, false}
 use mathlib.Core.List.{List}
 use lib.Dec.{eqb}
@@ -21,7 +21,7 @@ use Rattle.stroke.specs.Sweep.{pathPoints}
 use Rattle.stroke.specs.Runs.{rowRuns}
 use Rattle.checks.specs.declared.Answer.{Answer}
 use Rattle.checks.specs.Checks.{verdict}
-use Rattle.checks.specs.Answer.{Result, Offer, given}
+use Rattle.checks.specs.Answer.{Result, given}
 use Rattle.packed.specs.Packed.{packedOffer}
 use Rattle.band.specs.Band.{topRow, bandOffer}
 use Rattle.outcome.specs.Outcome.{lengthVerdict, hostVerdict, coded, told}

@@ -1,15 +1,14 @@
 -- What each call packs is the row of the definition.
 use Prim.Native.Nat.{ℕ, _+_, _/_, _<_}
-use mathlib.Core.Path.{_≡_, sym, ap, ap₂, subst, _∙_}
+use mathlib.Core.Path.{_≡_, sym, ap, subst, _∙_}
 use mathlib.Core.List.{List}
 use lib.ListN.{drop}
-use lib.IntN.{ℤ, pos}
+use lib.IntN.{ℤ}
 use Rattle.plane.specs.Point.{Pt}
 use Rattle.wire.specs.Read.{entriesOf}
 use Rattle.setting.specs.declared.Setting.{Setting}
 use Rattle.pen.specs.Polygon.{pen}
 use Rattle.pen.specs.Answer.{penCorners}
-use Rattle.checks.specs.declared.Answer.{Answer}
 use Rattle.checks.proofs.Given.{zero-gave}
 use Rattle.packed.specs.Packed.{packedOver, packedOffer}
 use Rattle.packed.proofs.Stored.{packed-call-is, row-stored}

@@ -1,9 +1,8 @@
 -- Demand 1: every call is its checks and an offer, so that what checks and an offer refuse it refuses.
 use Prim.Native.Nat.{ℕ, _%_}
 use native.Mathlib.Omega.{arith}
-use mathlib.Core.Path.{_≡_, refl, sym, ap, subst, _∙_}
-use mathlib.Core.Logic.{_⊎_, inl, inr}
-use mathlib.Core.Bool.{Bool, true, false}
+use mathlib.Core.Path.{_≡_, refl, sym, subst}
+use mathlib.Core.Logic.{inl, inr}
 use mathlib.Core.List.{List}
 use lib.Dec.{eqb}
 use borrow.Author.Tests.{eqb-true, eqb-false}
@@ -11,10 +10,9 @@ use lib.ListN.{length}
 use lib.IntN.{ℤ}
 use Rattle.limits.specs.declared.Verdict.{Verdict}
 use Rattle.limits.specs.declared.Verdict.the-variants.{Passed, Refused}
-use Rattle.limits.specs.Refusal.{path, unless, _then_}
+use Rattle.limits.specs.Refusal.{path, _then_}
 use Rattle.limits.specs.Exactly.{BadPath}
-use Rattle.limits.proofs.Exactly.{Says, passes, refuses, unless-says, says-both}
-use Rattle.plane.specs.Point.{Pt}
+use Rattle.limits.proofs.Exactly.{Says, passes, unless-says, says-both}
 use Rattle.wire.specs.Read.{entriesOf}
 use Rattle.setting.specs.declared.Setting.{Setting}
 use Rattle.setting.specs.declared.Checked.{Checked}
@@ -23,14 +21,13 @@ use Rattle.setting.specs.Answer.{checked, checkedVerdict}
 use Rattle.setting.specs.Exactly.{BadSetting}
 use Rattle.setting.proofs.Exactly.{setting-says}
 use Rattle.pen.specs.Polygon.{pen}
-use Rattle.aperture.specs.declared.Table.{Table}
 use Rattle.aperture.specs.Table.{looked, lookedVerdict, heldCorners}
 use Rattle.aperture.specs.Refusals.{NoPen}
 use Rattle.aperture.proofs.Refusals.{look-says}
 use Rattle.stroke.specs.Sweep.{pathPoints}
 use Rattle.stroke.specs.Runs.{rowRuns}
-use Rattle.checks.specs.Checks.{pathVerdict, rasterVerdict, rowVerdict, coordinateVerdict, verdict, roomVerdict}
-use Rattle.checks.specs.Answer.{Result, Offer, given}
+use Rattle.checks.specs.Checks.{pathVerdict, rasterVerdict, rowVerdict, coordinateVerdict, roomVerdict}
+use Rattle.checks.specs.Answer.{Offer, given}
 use Rattle.checks.specs.Refuses.{Refuses}
 use Rattle.checks.proofs.Exactly.{path-says, Placed, unless-placed, zero-placed, then-placed, given-refuses, call-refuses, path-placed}
 use Rattle.row.specs.Answer.{runsOffer, rowResult}
@@ -45,7 +42,7 @@ use Rattle.records.proofs.Plain.{records-given}
 use Rattle.outcome.specs.Outcome.{lengthVerdict, hostVerdict}
 use Rattle.host.specs.Host.{runBytesOffer, hostRow, hostPackedRow}
 use Rattle.host_band.specs.HostBand.{hostBand}
-use Rattle.demands.specs.Demand1.{RowRefuses, RunsForRefuses, RecordsRefuses, PackedRefuses, PackedForRefuses, BandRefuses, BadBytes, taken-apart, HostRowRefuses, HostPackedRefuses, HostBandRefuses}
+use Rattle.demands.specs.Demand1.{RowRefuses, RunsForRefuses, RecordsRefuses, PackedRefuses, PackedForRefuses, BandRefuses, BadBytes, HostRowRefuses, HostPackedRefuses, HostBandRefuses}
 use Rattle.demands.proofs.Heard.{runs-apart, packed-apart, band-apart}
 
 -- ---- a table's aperture, or a pen

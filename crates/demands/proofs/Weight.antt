@@ -1,14 +1,13 @@
 -- Demand 3: what the calls report is what the crate stroke counts.
 use Prim.Native.Nat.{ℕ, zero, suc, _+_, _≤_, _<_}
 use native.Mathlib.Omega.{arith}
-use mathlib.Core.Path.{_≡_, refl, sym, ap, ap₂, subst, _∙_}
+use mathlib.Core.Path.{_≡_, refl, sym, ap, subst, _∙_}
 use mathlib.Core.Logic.{inl, inr, _↔_}
 use mathlib.Core.List.{List, [], _∷_}
 use lib.Dec.{leb→le, le→leb, lt→ltb}
 use lib.Signed.{leZ-yes, ltZ-yes}
 use lib.IntN.{ℤ, pos, negsuc, negℤ, _+ℤ_, _-ℤ_, _*ℤ_}
 use Rattle.integers.specs.Orders.{_≼_}
-use Rattle.integers.specs.Count.{_∈_}
 use Rattle.integers.proofs.Ring.{ring, reify}
 use Rattle.integers.proofs.Order.{le-antisymm}
 use Rattle.integers.proofs.Count.{number-iff}
@@ -16,9 +15,9 @@ use Rattle.plane.specs.Point.{Pt}
 use Rattle.plane.specs.Polygon.{dot, PenLaws}
 use Rattle.setting.specs.Setting.{Dx, Dy}
 use Rattle.pen.proofs.Theorems.{pen-is-pen}
-use Rattle.stroke.specs.Sweep.{Seg, centre, pathPoints}
+use Rattle.stroke.specs.Sweep.{centre, pathPoints}
 use Rattle.stroke.specs.Black.{BlackPath}
-use Rattle.stroke.specs.Runs.{Run, holds, Covers, Longest, rowRuns}
+use Rattle.stroke.specs.Runs.{Run, holds, Covers, Longest}
 use Rattle.stroke.specs.Weight.{InRows, offset}
 use Rattle.stroke.proofs.Corners.{furthest-bound, furthest-corner}
 use Rattle.stroke.proofs.Totals.{total, CoversZ}
@@ -26,7 +25,7 @@ use Rattle.stroke.proofs.Theorems.{runs-longest}
 use Rattle.stroke.proofs.Answers.{rows-total, column-covered}
 use Rattle.demands.specs.Reports.{Reports}
 use Rattle.demands.specs.Demand2.{Pens}
-use Rattle.demands.specs.Demand3.{Greatest, entries, sumOf, RunsHold, CoversColumn, LevelRows}
+use Rattle.demands.specs.Demand3.{Greatest, sumOf, RunsHold, CoversColumn, LevelRows}
 use Rattle.demands.proofs.Reported.{reports-is}
 
 -- the laws of a pen of some setting
