@@ -1,6 +1,7 @@
--- A row by its cuts, for the callers: which columns are black where no segment touches the row, where one does, and where the cuts are laid over bytes.
+-- A row by its cuts, for the callers: which columns are black where no segment touches the row, where one does or two, and where the cuts are laid over
+-- bytes.
 use mathlib.Core.Path.{_≡_, refl, sym, ap, _∙_, subst}
-use mathlib.Core.Bool.{true, false, _&&_}
+use mathlib.Core.Bool.{true, false, _&&_, _||_}
 use mathlib.Core.List.{List}
 use Prim.Native.Nat.{ℕ, _≤_, _<_}
 use native.Mathlib.Omega.{arith}
@@ -22,7 +23,7 @@ use Rattle.cuts.specs.declared.cut.Cut.{Cut}
 use Rattle.cuts.specs.declared.Touch.the-variants as touch·
 use Rattle.cuts.specs.Cuts.{cuts, touchOf, touchIn, boundsOf, unbounded, Laid, laid, Bounded, blackCut}
 use Rattle.cuts.proofs.Raster.{Near, cuts-below, black-cut}
-use Rattle.cuts.proofs.Touches.{untouched-black, one-black, one-in}
+use Rattle.cuts.proofs.Touches.{touch-black, WithinTouch, touch-within}
 use Rattle.cuts.proofs.Between.{bounded-ext, bounds-hold}
 use Rattle.cuts.proofs.Laid.{black-past}
 
@@ -66,10 +67,14 @@ module _ (cs path : List Pt) (columns j : ℕ) (s : Size columns) where
     by-cuts x h = black-cut cs path columns j x n h
 
     pub untouched : touchIn cs path columns j ≡ touch·.Untouched → (x : ℕ) → x < columns → blackAt cs path (pos j) (pos x) ≡ false
-    untouched e x h = by-cuts x h ∙ untouched-black row-cuts (sym touches ∙ e) x
+    untouched e x h = by-cuts x h ∙ touch-black row-cuts (sym touches ∙ e) tt x
 
     pub touched-once : (a b : ℕ) → touchIn cs path columns j ≡ touch·.One a b → (x : ℕ) → x < columns → blackAt cs path (pos j) (pos x) ≡ (leb a x && leb x b)
-    touched-once a b e x h = by-cuts x h ∙ one-black row-cuts a b (sym touches ∙ e) x
+    touched-once a b e x h = by-cuts x h ∙ touch-black row-cuts (sym touches ∙ e) tt x
+
+    pub touched-twice : (a b c d : ℕ) → touchIn cs path columns j ≡ touch·.Two a b c d → (x : ℕ) → x < columns →
+        blackAt cs path (pos j) (pos x) ≡ ((leb a x && leb x b) || (leb c x && leb x d))
+    touched-twice a b c d e x h = by-cuts x h ∙ touch-black row-cuts (sym touches ∙ e) tt x
 
     -- laid over bytes, the row is that of the path
     pub laid-row : (b : List ℕ) {c : List ℕ} {u : Bounds} → packedLength columns ≤ length b → record { bytes = c; bounds = u } ≡ laid cs path columns j b →
@@ -99,7 +104,13 @@ module _ (cs path : List Pt) (columns j : ℕ) (s : Size columns) where
     pub laid-black : Near (segments path) j → (x : ℕ) → x < columns → bitAt c x ≡ blackAt cs path (pos j) (pos x)
     laid-black near x k = bits-are x ∙ sym (by-cuts near x k)
 
-  -- the one cut lies within the raster
-  pub once-in : (a b : ℕ) → touchIn cs path columns j ≡ touch·.One a b → (a ≤ b) × (b < columns)
+  -- ---- the columns of one cut, and of two, lie within the raster
+  within : WithinTouch columns (touchIn cs path columns j)
   unfolding row-cuts
-  once-in a b e = one-in cs path columns j a b (sym touches ∙ e)
+  within = subst (WithinTouch columns) (sym touches) (touch-within columns row-cuts (cuts-below cs path columns j) touch·.Untouched tt)
+
+  pub once-in : (a b : ℕ) → touchIn cs path columns j ≡ touch·.One a b → (a ≤ b) × (b < columns)
+  once-in a b e = subst (WithinTouch columns) e within
+
+  pub twice-in : (a b c d : ℕ) → touchIn cs path columns j ≡ touch·.Two a b c d → ((a ≤ b) × (b < columns)) × ((c ≤ d) × (d < columns))
+  twice-in a b c d e = subst (WithinTouch columns) e within

@@ -1,20 +1,16 @@
--- What the cuts of a row come to where none of them, or one, has a column.
-use mathlib.Core.Path.{_≡_, refl, sym, ap₂, _∙_}
-use mathlib.Core.Bool.{Bool, true, false, _&&_, _||_}
+-- What the cuts of a row come to where none of them has a column, or one has, or two.
+use mathlib.Core.Path.{_≡_, refl, sym, ap, _∙_, subst}
+use mathlib.Core.Bool.{Bool, false, _||_, or-false, or-assoc}
 use mathlib.Core.List.{List, [], _∷_, List·Memᴰ·head as head, List·Memᴰ·tail as tail}
 use Prim.Native.Nat.{ℕ, suc, _≤_, _<_}
-use native.Mathlib.Omega.{arith}
-use lib.Dec.{leb}
 use lib.ListN.{length, getD, drop}
 use lib.Seq.{drop-cons}
 use Rattle.integers.specs.Count.{_∈_}
-use Rattle.plane.specs.Point.{Pt}
 use Rattle.cuts.specs.declared.cut.Cut.{Cut}
 use Rattle.cuts.specs.declared.cut.Cut.the-variants as cut·
 use Rattle.cuts.specs.declared.Touch.{Touch}
 use Rattle.cuts.specs.declared.Touch.the-variants as touch·
-use Rattle.cuts.specs.Cuts.{cuts, blackCut, touched, touchOf}
-use Rattle.cuts.proofs.Raster.{cuts-below}
+use Rattle.cuts.specs.Cuts.{Below, inCut, blackCut, touched, touchOf}
 
 -- ---- one cut after the other
 pub touch-step : (l : List Cut) (k : ℕ) (t : Touch) → k < length l → touchOf (drop k l) t ≡ touchOf (drop (suc k) l) (touched t (getD l k cut·.Nothing))
@@ -25,7 +21,6 @@ pub touch-end : {l : List Cut} (t : Touch) → l ≡ [] → touchOf l t ≡ t
 unfolding touchOf
 touch-end t e = rw e
 
--- ---- what all cuts come to
 -- several stay several
 pub several-stay : (l : List Cut) → touchOf l touch·.Several ≡ touch·.Several
 unfolding touchOf
@@ -33,45 +28,49 @@ several-stay [] = refl
 several-stay (cut·.Nothing ∷ l) = several-stay l
 several-stay (cut·.Columns a b ∷ l) = several-stay l
 
--- one stays untouched by nothing only
-one-stays : (l : List Cut) (a b c d : ℕ) → touchOf l (touch·.One a b) ≡ touch·.One c d → (a ≡ c) × (b ≡ d) × ((x : ℕ) → blackCut l x ≡ false)
+-- ---- which columns are black
+-- two cuts at most have columns
+abbrev pub FewTouch : Touch → Type 0
+FewTouch touch·.Untouched = Unit
+FewTouch (touch·.One a b) = Unit
+FewTouch (touch·.Two a b c d) = Unit
+FewTouch touch·.Several = ⊥
+
+-- the columns of those cuts
+abbrev pub blackTouch : Touch → ℕ → Bool
+blackTouch touch·.Untouched x = false
+blackTouch (touch·.One a b) x = inCut x (cut·.Columns a b)
+blackTouch (touch·.Two a b c d) x = inCut x (cut·.Columns a b) || inCut x (cut·.Columns c d)
+blackTouch touch·.Several x = false
+
+-- while there are few, the columns of t and of the cuts after it are those of what they come to
+touch-more : (l : List Cut) (t : Touch) → FewTouch (touchOf l t) → (x : ℕ) → (blackTouch t x || blackCut l x) ≡ blackTouch (touchOf l t) x
 unfolding touchOf
-one-stays [] a b c d e = (cc, cc, λ x. refl)
-one-stays (cut·.Nothing ∷ l) a b c d e = one-stays l a b c d e
-one-stays (cut·.Columns m n ∷ l) a b c d e = let s = several-stay l in absurd (let z : _≡_ {A = ℕ} 0 1 = cc in omega arith)
+touch-more [] t h x = or-false (blackTouch t x)
+touch-more (cut·.Nothing ∷ l) t h x = touch-more l t h x
+touch-more (cut·.Columns a b ∷ l) touch·.Untouched h x = touch-more l (touch·.One a b) h x
+touch-more (cut·.Columns c d ∷ l) (touch·.One a b) h x =
+    sym (or-assoc (inCut x (cut·.Columns a b)) (inCut x (cut·.Columns c d)) (blackCut l x)) ∙ touch-more l (touch·.Two a b c d) h x
+touch-more (cut·.Columns e f ∷ l) (touch·.Two a b c d) h x = absurd (subst FewTouch (several-stay l) h)
+touch-more (cut·.Columns e f ∷ l) touch·.Several h x = absurd (subst FewTouch (several-stay l) h)
 
-not-untouched : (l : List Cut) (a b : ℕ) → touchOf l (touch·.One a b) ≡ touch·.Untouched → ⊥
+-- so where all cuts come to few, the columns of those are the black ones
+pub touch-black : (l : List Cut) {u : Touch} → touchOf l touch·.Untouched ≡ u → FewTouch u → (x : ℕ) → blackCut l x ≡ blackTouch u x
+touch-black l e h x = touch-more l touch·.Untouched (subst FewTouch (sym e) h) x ∙ ap (λ (t : Touch). blackTouch t x) e
+
+-- ---- within a raster of n columns
+abbrev pub WithinTouch : ℕ → Touch → Type 0
+WithinTouch n touch·.Untouched = Unit
+WithinTouch n (touch·.One a b) = (a ≤ b) × (b < n)
+WithinTouch n (touch·.Two a b c d) = ((a ≤ b) × (b < n)) × ((c ≤ d) × (d < n))
+WithinTouch n touch·.Several = Unit
+
+-- cuts within the raster come to columns within it
+pub touch-within : (n : ℕ) (l : List Cut) → ((c : Cut) → c ∈ l → Below n c) → (t : Touch) → WithinTouch n t → WithinTouch n (touchOf l t)
 unfolding touchOf
-not-untouched [] a b e = let z : _≡_ {A = ℕ} 0 1 = cc in omega arith
-not-untouched (cut·.Nothing ∷ l) a b e = not-untouched l a b e
-not-untouched (cut·.Columns m n ∷ l) a b e = let s = several-stay l in let z : _≡_ {A = ℕ} 0 1 = cc in omega arith
-
--- where no cut has a column, none is black
-pub untouched-black : (l : List Cut) → touchOf l touch·.Untouched ≡ touch·.Untouched → (x : ℕ) → blackCut l x ≡ false
-unfolding touchOf
-untouched-black [] e x = refl
-untouched-black (cut·.Nothing ∷ l) e x = untouched-black l e x
-untouched-black (cut·.Columns a b ∷ l) e x = absurd (not-untouched l a b e)
-
--- where one cut has columns, it is one of the list, and its columns are the black ones
-pub one-member : (l : List Cut) (a b : ℕ) → touchOf l touch·.Untouched ≡ touch·.One a b → cut·.Columns a b ∈ l
-unfolding touchOf
-one-member [] a b e = absurd (let z : _≡_ {A = ℕ} 0 1 = cc in omega arith)
-one-member (cut·.Nothing ∷ l) a b e = tail (one-member l a b e)
-one-member (cut·.Columns m n ∷ l) a b e = let s = one-stays l m n a b e in head (ap₂ cut·.Columns (sym (s .0)) (sym (s .1)))
-
-or-false : (t u : Bool) → u ≡ false → (t || u) ≡ t
-or-false true u e = refl
-or-false false u e = e
-
-pub one-black : (l : List Cut) (a b : ℕ) → touchOf l touch·.Untouched ≡ touch·.One a b → (x : ℕ) → blackCut l x ≡ (leb a x && leb x b)
-unfolding touchOf
-one-black [] a b e x = absurd (let z : _≡_ {A = ℕ} 0 1 = cc in omega arith)
-one-black (cut·.Nothing ∷ l) a b e x = one-black l a b e x
-one-black (cut·.Columns m n ∷ l) a b e x =
-    let s = one-stays l m n a b e in
-    or-false (leb m x && leb x n) (blackCut l x) (s .2 x) ∙ ap₂ (λ (m n : ℕ). leb m x && leb x n) (s .0) (s .1)
-
--- the one cut of a path lies within the raster
-pub one-in : (cs path : List Pt) (columns j a b : ℕ) → touchOf (cuts cs path columns j) touch·.Untouched ≡ touch·.One a b → (a ≤ b) × (b < columns)
-one-in cs path columns j a b e = cuts-below cs path columns j (cut·.Columns a b) (one-member (cuts cs path columns j) a b e) a b refl
+touch-within n [] b t w = w
+touch-within n (cut·.Nothing ∷ l) b t w = touch-within n l (λ c m. b c (tail m)) t w
+touch-within n (cut·.Columns p q ∷ l) b touch·.Untouched w = touch-within n l (λ c m. b c (tail m)) (touch·.One p q) (b (cut·.Columns p q) (head refl) p q refl)
+touch-within n (cut·.Columns p q ∷ l) b (touch·.One x y) w = touch-within n l (λ c m. b c (tail m)) (touch·.Two x y p q) (w, b (cut·.Columns p q) (head refl) p q refl)
+touch-within n (cut·.Columns p q ∷ l) b (touch·.Two x y z u) w = touch-within n l (λ c m. b c (tail m)) touch·.Several tt
+touch-within n (cut·.Columns p q ∷ l) b touch·.Several w = touch-within n l (λ c m. b c (tail m)) touch·.Several tt

@@ -57,7 +57,8 @@ blackCut cs x = any (inCut x) cs
 abbrev pub touched : Touch → Cut → Touch
 touched t cut·.Nothing = t
 touched touch·.Untouched (cut·.Columns l r) = touch·.One l r
-touched (touch·.One a b) (cut·.Columns l r) = touch·.Several
+touched (touch·.One a b) (cut·.Columns l r) = touch·.Two a b l r
+touched (touch·.Two a b c d) (cut·.Columns l r) = touch·.Several
 touched touch·.Several (cut·.Columns l r) = touch·.Several
 
 unfoldable pub touchOf : List Cut → Touch → Touch

@@ -40,7 +40,8 @@ fn touched(t: Touch, c: Cut) -> Touch
     };
     match t {
         Touch::Untouched => Touch::One(left, right),
-        Touch::One(_, _) => Touch::Several,
+        Touch::One(a, b) => Touch::Two(a, b, left, right),
+        Touch::Two(_, _, _, _) => Touch::Several,
         Touch::Several => Touch::Several,
     }
 }
@@ -79,7 +80,7 @@ pub fn cut_at<'a>(
     cut_span(first, last, columns)
 }
 
-// Several stay several, so the second segment that touches the row ends the search.
+// Several stay several, so the third segment that touches the row ends the search.
 pub fn first_touches<'a>(
     xs: &'a [i8],
     ys: &'a [i8],

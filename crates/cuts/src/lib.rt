@@ -1,7 +1,7 @@
 // The segments of a path in one row.
 //
 // The way of the data: each segment's columns are cut to the raster (cut), and laid over the bytes
-// of a row (over). Most rows are touched by no segment or by one, which can be known before. What
+// of a row (over). Most rows are touched by two segments at most, which can be known before. What
 // each function promises is cited from specs/.
 ghost use mathlib.Core.Path.{_≡_};
 ghost use mathlib.Core.Bool.{_&&_};
@@ -15,10 +15,12 @@ ghost use Rattle.cuts.specs.Cuts.{touchIn, Laid, laid};
 mod cut;
 mod over;
 
-// How many segments touch the row: none, one, with its columns, or several.
+// How many segments touch the row: none, one or two, with the columns of each in the path's order,
+// or several.
 pub enum Touch {
     Untouched,
     One(usize, usize),
+    Two(usize, usize, usize, usize),
     Several,
 }
 

@@ -3,3 +3,4 @@ pub mod Answer
 pub mod Calls
 pub mod Cases
 pub mod Pass
+pub mod Together

@@ -1,12 +1,15 @@
 // One row of a path that has passed the checks, as runs.
 //
-// Most rows are touched by no segment or by one, and need no bytes. Where several touch a row they
+// Most rows are touched by two segments at most, and need no bytes. Where several touch a row they
 // are laid over the bytes of one, and the runs are those of its bits.
 use crate::runs::count_runs;
+use crate::runs::write_both;
 use crate::runs::write_one;
 use crate::runs::write_runs;
 use checks::Answer;
 use cuts::Touch;
+use integers::max_usize;
+use integers::min_usize;
 use limits::Verdict;
 ghost use mathlib.Core.Path.{_≡_};
 ghost use mathlib.Core.List.{[], _∷_};
@@ -20,14 +23,14 @@ ghost use Rattle.bits.specs.Bits.{bitAt};
 ghost use Rattle.cuts.specs.Cuts.{Bounded};
 ghost use Rattle.checks.specs.Answer.{given};
 ghost use Rattle.row.specs.Answer.{runsOffer, rowGiven};
+ghost use Rattle.row.specs.Together.{Inside, together};
 
 // How many bytes the longest row fills.
 const ROW_BYTES: usize = limits::RASTER_MAX / 8;
 
 // A row of one run.
 fn write_single(runs: &mut [u16], left: usize, right: usize) -> Answer
-    requires left_inside { ⌜ left < rasterMax ⌝ }
-    requires right_inside { ⌜ right < rasterMax ⌝ }
+    requires { ⌜ Inside left right ⌝ }
     ensures { λ r. ⌜ record { answer = r; list = now (runs .exit) } ≡ given Passed (runsOffer (record { left = left; right = right } ∷ []) (now (runs .entry))) ⌝ }
 {
     let room = checks::room_check(1, runs.len() / 2);
@@ -36,6 +39,38 @@ fn write_single(runs: &mut [u16], left: usize, right: usize) -> Answer
     };
     write_one(runs, left, right);
     checks::done(1)
+}
+
+// A row of two runs.
+fn write_pair(runs: &mut [u16], a: usize, b: usize, c: usize, d: usize) -> Answer
+    requires first { ⌜ Inside a b ⌝ }
+    requires second { ⌜ Inside c d ⌝ }
+    ensures { λ r. ⌜ record { answer = r; list = now (runs .exit) }
+        ≡ given Passed (runsOffer (record { left = a; right = b } ∷ record { left = c; right = d } ∷ []) (now (runs .entry))) ⌝ }
+{
+    let room = checks::room_check(2, runs.len() / 2);
+    let Verdict::Passed = room else {
+        return checks::report(room);
+    };
+    write_both(runs, a, b, c, d);
+    checks::done(2)
+}
+
+// A row of two segments, one from a to b, the other from c to d. They come in the path's order, and
+// may overlap.
+fn write_two(runs: &mut [u16], a: usize, b: usize, c: usize, d: usize) -> Answer
+    requires first { ⌜ Inside a b ⌝ }
+    requires second { ⌜ Inside c d ⌝ }
+    ensures { λ r. ⌜ record { answer = r; list = now (runs .exit) }
+        ≡ given Passed (runsOffer (together (record { left = a; right = b }) (record { left = c; right = d })) (now (runs .entry))) ⌝ }
+{
+    if b + 1 < c {
+        return write_pair(runs, a, b, c, d);
+    }
+    if d + 1 < a {
+        return write_pair(runs, c, d, a, b);
+    }
+    write_single(runs, min_usize(a, c), max_usize(b, d))
 }
 
 // The runs are counted before any is written, so that a refusal leaves the list as it was.
@@ -89,6 +124,7 @@ pub fn draw_runs<'a>(
     match cuts::touching(xs, ys, count, path, columns, row) {
         Touch::Untouched => checks::done(0),
         Touch::One(left, right) => write_single(runs, left, right),
+        Touch::Two(a, b, c, d) => write_two(runs, a, b, c, d),
         Touch::Several => several_runs(runs, xs, ys, count, path, columns, row),
     }
 }

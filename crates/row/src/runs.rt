@@ -15,6 +15,7 @@ ghost use Rattle.bits.specs.Bits.{bitAt};
 ghost use Rattle.stroke.specs.Runs.{runsOf};
 ghost use Rattle.row.specs.Answer.{listed};
 ghost use Rattle.row.specs.Pass.{PassedTo, HoldsRuns};
+ghost use Rattle.row.specs.Together.{Inside};
 ghost use Rattle.cuts.specs.Cuts.{Bounded};
 
 // What the pass knows after a column: whether the column is black, and how many runs there are so
@@ -111,8 +112,7 @@ pub fn count_runs(bytes: &[u8], first: usize, end: usize) -> usize
 // The run after the first n.
 fn write_run(runs: &mut [u16], n: usize, left: usize, right: usize)
     requires place { ⌜ 2 * n + 1 < length (now runs) ⌝ }
-    requires left_inside { ⌜ left < rasterMax ⌝ }
-    requires right_inside { ⌜ right < rasterMax ⌝ }
+    requires inside { ⌜ Inside left right ⌝ }
     ensures { λ _. ⌜ now (runs .exit) ≡ set (set (now (runs .entry)) (2 * n) left) (2 * n + 1) right ⌝ }
 {
     runs[2 * n] = left as u16;
@@ -195,9 +195,18 @@ pub fn write_runs(bytes: &[u8], first: usize, end: usize, runs: &mut [u16])
 
 pub fn write_one(runs: &mut [u16], left: usize, right: usize)
     requires room { ⌜ 2 ≤ length (now runs) ⌝ }
-    requires left_inside { ⌜ left < rasterMax ⌝ }
-    requires right_inside { ⌜ right < rasterMax ⌝ }
+    requires inside { ⌜ Inside left right ⌝ }
     ensures { λ _. ⌜ now (runs .exit) ≡ listed (record { left = left; right = right } ∷ []) (now (runs .entry)) ⌝ }
 {
     write_run(runs, 0, left, right);
+}
+
+pub fn write_both(runs: &mut [u16], a: usize, b: usize, c: usize, d: usize)
+    requires room { ⌜ 4 ≤ length (now runs) ⌝ }
+    requires first { ⌜ Inside a b ⌝ }
+    requires second { ⌜ Inside c d ⌝ }
+    ensures { λ _. ⌜ now (runs .exit) ≡ listed (record { left = a; right = b } ∷ record { left = c; right = d } ∷ []) (now (runs .entry)) ⌝ }
+{
+    write_run(runs, 0, a, b);
+    write_run(runs, 1, c, d);
 }

@@ -17,6 +17,9 @@ returns c = search needs
 enum-told-2 : tie.Need-enum-told-2
 enum-told-2 c = search needs
 
+enum-known-t : tie.Need-enum-known-t
+enum-known-t c = search needs
+
 enum-told-3 : tie.Need-enum-told-3
 enum-told-3 c = search needs
 
@@ -27,10 +30,13 @@ returns-2 : tie.Need-returns-2
 returns-2 c = sym (ap₂ touched (c .enum-told2 .given .1) (c .before .before .before .c .given .1))
 
 returns-3 : tie.Need-returns-3
-returns-3 c = search needs
+returns-3 c = sym (ap₂ touched (c .before .t .given .1) (c .before .before .before .before .c .given .1))
 
 returns-4 : tie.Need-returns-4
 returns-4 c = search needs
+
+returns-5 : tie.Need-returns-5
+returns-5 c = search needs
 
 pub touched-spec : {M : Type 1} → statement M
 touched-spec =
@@ -40,8 +46,10 @@ touched-spec =
     enum-told
     returns
     enum-told-2
+    enum-known-t
     enum-told-3
     enum-told-4
     returns-2
     returns-3
-    returns-4)
+    returns-4
+    returns-5)

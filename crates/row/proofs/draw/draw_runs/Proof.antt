@@ -8,13 +8,13 @@ use Rattle.limits.specs.declared.Verdict.the-variants.{Passed}
 use Rattle.plane.specs.Point.{Pt, corners}
 use Rattle.stroke.specs.Runs.{Run}
 use Rattle.stroke.specs.Sweep.{pathPoints}
-use Rattle.cuts.specs.declared.Touch.the-variants.{One}
+use Rattle.cuts.specs.declared.Touch.the-variants.{One, Two}
 use Rattle.cuts.specs.Cuts.{touchIn}
-use Rattle.cuts.proofs.Together.{once-in}
+use Rattle.cuts.proofs.Together.{once-in, twice-in}
 use Rattle.checks.specs.Answer.{Result, given}
 use Rattle.checks.proofs.Given.{room-left}
 use Rattle.row.specs.Answer.{runsOffer}
-use Rattle.row.proofs.Drawn.{runs-untouched, runs-touched}
+use Rattle.row.proofs.Drawn.{runs-untouched, runs-touched, runs-twice}
 use Rattle.row.proofs.draw.draw_runs.Statement.{statement}
 use Rattle.row.proofs.draw.draw_runs.Tie as tie
 
@@ -43,6 +43,28 @@ inside c =
     let s = start (c .before .before) in
     once-in (pen-corners s) (pathPoints (s .args .path .now)) (s .args .columns) (s .args .row) (s .pre .size) (left c) (right c) (once c)
 
+-- where two do: the ends of the first one's columns, and of the second one's
+abbrev left₁ : tie.After-a → ℕ
+left₁ c = c .a .given .0 .0
+
+abbrev right₁ : tie.After-a → ℕ
+right₁ c = c .a .given .0 .1 .0
+
+abbrev left₂ : tie.After-a → ℕ
+left₂ c = c .a .given .0 .1 .1 .0
+
+abbrev right₂ : tie.After-a → ℕ
+right₂ c = c .a .given .0 .1 .1 .1 .0
+
+twice : (c : tie.After-a) → let s = start (c .before .before) in
+    touchIn (pen-corners s) (pathPoints (s .args .path .now)) (s .args .columns) (s .args .row) ≡ Two (left₁ c) (right₁ c) (left₂ c) (right₂ c)
+twice c = sym (c .before .before .touching .ensures) ∙ c .a .given .1
+
+both-inside : (c : tie.After-a) → let n = start (c .before .before) .args .columns in ((left₁ c ≤ right₁ c) × (right₁ c < n)) × ((left₂ c ≤ right₂ c) × (right₂ c < n))
+both-inside c =
+    let s = start (c .before .before) in
+    twice-in (pen-corners s) (pathPoints (s .args .path .now)) (s .args .columns) (s .args .row) (s .pre .size) (left₁ c) (right₁ c) (left₂ c) (right₂ c) (twice c)
+
 touching-requires : tie.Need-touching-requires
 touching-requires c κs = search needs
 
@@ -60,6 +82,16 @@ write-single-requires c κs =
     let one = c .before .before in
     let few = start (one .before .before) .pre .size .few in
     (omega (arith, inside one, few), omega (arith, inside one, few))
+
+enum-known-a : tie.Need-enum-known-a
+enum-known-a c = search needs
+
+write-two-requires : tie.Need-write-two-requires
+write-two-requires c κs =
+    let two = c .before .before in
+    let few = start (two .before .before) .pre .size .few in
+    let b = both-inside two in
+    ((omega (arith, b .0, few), omega (arith, b .0, few)), (omega (arith, b .1, few), omega (arith, b .1, few)))
 
 enum-told-2 : tie.Need-enum-told-2
 enum-told-2 c = search needs
@@ -89,7 +121,19 @@ same-length-2 : tie.Need-same-length-2
 same-length-2 c = search needs
 
 returns-3 : tie.Need-returns-3
-returns-3 c = search needs
+returns-3 c =
+    let written = c .before .before in
+    let two = written .before .before .before in
+    let s = start (two .before .before) in
+    written .write-two .ensures
+    ∙ ap (offered s)
+    (sym (runs-twice (pen-corners s) (s .args .path .now) (s .args .columns) (s .args .row) (s .pre) (left₁ two) (right₁ two) (left₂ two) (right₂ two) (twice two)))
+
+same-length-3 : tie.Need-same-length-3
+same-length-3 c = search needs
+
+returns-4 : tie.Need-returns-4
+returns-4 c = search needs
 
 pub draw-runs-spec : {M : Type 1} → statement M
 draw-runs-spec =
@@ -100,10 +144,14 @@ draw-runs-spec =
     done-requires
     enum-known-left
     write-single-requires
+    enum-known-a
+    write-two-requires
     enum-told-2
     several-runs-requires
     returns
     same-length
     returns-2
     same-length-2
-    returns-3)
+    returns-3
+    same-length-3
+    returns-4)
