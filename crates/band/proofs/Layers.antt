@@ -60,7 +60,7 @@ or-either : (a b : Bool) → (a || b) ≡ true → (a ≡ true) ⊎ (b ≡ true)
 or-either true b e = inl refl
 or-either false b e = inr e
 
-pub not-true : (a : Bool) → (a ≡ true → ⊥) → a ≡ false
+not-true : (a : Bool) → (a ≡ true → ⊥) → a ≡ false
 not-true true h = absurd (h refl)
 not-true false h = refl
 

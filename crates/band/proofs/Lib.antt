@@ -3,7 +3,7 @@
 --   PastRows                  the first row past a height
 --   Layers, OneRow            some rows of a band laid over its bytes, one after the other; one row is a span
 --   Carried, Swept            the rows of a segment between its flanks, from row to row
---   Heights, Reached, Built   the least and the greatest y of a path; a row that it does not reach; the pen that was built, by its arrays
+--   Reached, Built            a row that a path does not reach; the pen that was built, by its arrays
 --   Call                      the call by what its checks answer
 --   Parts, Seams, OneByOne    columns laid over bytes that stand one after the other; a band that is cut after whole rows; a band by its rows
 --   Pixels, Refusals          a band by its pixels; what is checked of it, in words
@@ -14,7 +14,6 @@ pub mod Layers
 pub mod OneRow
 pub mod Carried
 pub mod Swept
-pub mod Heights
 pub mod Reached
 pub mod Built
 pub mod Call

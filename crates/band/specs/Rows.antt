@@ -4,10 +4,9 @@ use mathlib.Core.Path.{_≡_}
 use mathlib.Core.Bool.{Bool, true, false, _&&_}
 use mathlib.Core.List.{List}
 use lib.Dec.{leb, ltb}
-use lib.ListN.{length, getD}
 use lib.IntN.{ℤ, pos, _*ℤ_}
 use Rattle.integers.specs.Orders.{_≼_, _≺_}
-use Rattle.limits.specs.Sizes.{rasterMax, inRange, Size}
+use Rattle.limits.specs.Sizes.{rasterMax, Size}
 use Rattle.plane.specs.Point.{Pt, corners}
 use Rattle.plane.specs.Polygon.{PenLaws}
 use Rattle.ties.specs.Below.{below}
@@ -79,14 +78,3 @@ pub record Past (y : ℤ) (from to r : ℕ) : Type 0 where
   pub before : r ≤ to
   pub under : (j : ℕ) → j < r → from < r → below (pos 16 *ℤ pos j) y ≡ true
   pub over : (j : ℕ) → r ≤ j → r < to → below (pos 16 *ℤ pos j) y ≡ false
-
--- all coordinates are in range
-abbrev pub InRange : List ℤ → Type 0
-InRange path = (k : ℕ) → k < length path → inRange (getD path k (pos 0)) ≡ true
-
--- no y of the path is less, and none is greater
-abbrev pub NoneUnder : List ℤ → ℤ → Type 0
-NoneUnder path y = (k : ℕ) → 2 * k + 1 < length path → y ≼ getD path (2 * k + 1) (pos 0)
-
-abbrev pub NoneOver : List ℤ → ℤ → Type 0
-NoneOver path y = (k : ℕ) → 2 * k + 1 < length path → getD path (2 * k + 1) (pos 0) ≼ y

@@ -1,49 +1,20 @@
 // A path that has passed the checks, laid over the rows of a band that it reaches. Where it reaches
 // none, no pen is built.
 use crate::Shape;
-use crate::reach::rows_past;
+use crate::past::rows_past;
 use crate::tiles::lay_tiles;
-use integers::max;
-use integers::min;
+use reach::greatest_y;
+use reach::least_y;
 use setting::Setting;
 ghost use mathlib.Core.Path.{_≡_};
 ghost use Prim.Native.Nat.{_+_, _≤_};
 ghost use lib.ListN.{length};
-ghost use Rattle.integers.specs.Bound.{Abs};
 ghost use Rattle.limits.specs.Sizes.{entriesMax};
 ghost use Rattle.setting.specs.Setting.{Taken};
 ghost use Rattle.pen.specs.Polygon.{pen};
 ghost use Rattle.bits.specs.Bits.{blackened};
-ghost use Rattle.band.specs.Rows.{shaped, pathBlack, Fits, Part, InRange, NoneUnder, NoneOver};
-
-// The least y of a path, and the greatest one.
-fn least_y(path: &[i32]) -> i64
-    requires { ⌜ InRange (now path) ⌝ }
-    ensures least { λ r. ⌜ NoneUnder (now (path .entry)) r ⌝ }
-    ensures small { λ r. ⌜ Abs r 262144 ⌝ }
-{
-    let mut y = limits::COORDINATE_MAX as i64;
-    let mut i = 1;
-    while i < path.len() {
-        y = min(y, path[i] as i64);
-        i += 2;
-    }
-    y
-}
-
-fn greatest_y(path: &[i32]) -> i64
-    requires { ⌜ InRange (now path) ⌝ }
-    ensures greatest { λ r. ⌜ NoneOver (now (path .entry)) r ⌝ }
-    ensures small { λ r. ⌜ Abs r 262144 ⌝ }
-{
-    let mut y = limits::COORDINATE_MIN as i64;
-    let mut i = 1;
-    while i < path.len() {
-        y = max(y, path[i] as i64);
-        i += 2;
-    }
-    y
-}
+ghost use Rattle.reach.specs.Reach.{InRange};
+ghost use Rattle.band.specs.Rows.{shaped, pathBlack, Fits, Part};
 
 // The stroke in the rows from `from` on and before `to`.
 fn lay_pen(bytes: &mut [u8], setting: Setting, path: &[i32], s: Shape, from: u16, to: u16)

@@ -10,8 +10,8 @@ ghost use mathlib.Core.Path.{_≡_};
 ghost use Rattle.band.specs.Band.{topRow, roomFor, bandCall};
 
 mod drawn;
+mod past;
 mod path;
-mod reach;
 mod segment;
 mod tiles;
 

@@ -4,7 +4,8 @@ use crate::segment::lay_segment;
 ghost use mathlib.Core.Path.{_≡_};
 ghost use Rattle.plane.specs.Point.{corners};
 ghost use Rattle.bits.specs.Bits.{blackened};
-ghost use Rattle.band.specs.Rows.{shaped, pathBlack, PenOf, Fits, Part, InRange};
+ghost use Rattle.reach.specs.Reach.{InRange};
+ghost use Rattle.band.specs.Rows.{shaped, pathBlack, PenOf, Fits, Part};
 
 pub fn lay_path<'a>(
     bytes: &mut [u8],

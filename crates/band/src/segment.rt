@@ -1,7 +1,7 @@
 // One segment in some rows of a band: its flanks are carried from row to row, and the columns between
 // them are laid over the row's bytes.
 use crate::Shape;
-use crate::reach::rows_past;
+use crate::past::rows_past;
 use flanks::Flanks;
 use flanks::count_to;
 use integers::max;

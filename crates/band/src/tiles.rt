@@ -8,7 +8,8 @@ ghost use lib.ListN.{length};
 ghost use Rattle.limits.specs.Sizes.{entriesMax};
 ghost use Rattle.plane.specs.Point.{corners};
 ghost use Rattle.bits.specs.Bits.{blackened};
-ghost use Rattle.band.specs.Rows.{shaped, pathBlack, PenOf, Fits, Part, InRange};
+ghost use Rattle.reach.specs.Reach.{InRange};
+ghost use Rattle.band.specs.Rows.{shaped, pathBlack, PenOf, Fits, Part};
 
 const TILE: u16 = 256;
 

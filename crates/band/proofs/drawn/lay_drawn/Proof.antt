@@ -7,11 +7,13 @@ use mathlib.Core.Bool.{false}
 use lib.IntN.{ℤ, pos, _+ℤ_, _-ℤ_, _*ℤ_}
 use mir.Syntax.{w64}
 use Rattle.integers.proofs.Bound.{abs-le}
-use Rattle.integers.proofs.Machine.{Is, num, known, of-nat, mul, mul-fits, sub, sub-fits, add, add-fits, bound}
+use Rattle.integers.proofs.Machine.{Is, num, known, call, of-nat, mul, mul-fits, sub, sub-fits, add, add-fits, bound}
 use Rattle.integers.proofs.Words.{bits, _⊗_, _⊖_, _⊕_}
 use Rattle.setting.specs.Setting.{Dy}
 use Rattle.setting.proofs.Limits.{box-high}
 use Rattle.pen.specs.Polygon.{pen}
+use Rattle.reach.specs.Reach.{leastY, greatestY}
+use Rattle.reach.proofs.Heights.{none-under, none-over, least-small, greatest-small}
 use Rattle.band.specs.Rows.{pathBlack, Past}
 use Rattle.band.proofs.Layers.{laid-none, laid-wider, part-of}
 use Rattle.band.proofs.Reached.{clear-before, clear-past}
@@ -44,23 +46,29 @@ half : (s : tie.Start) → Is w64 (pos 8 *ℤ pos (Dy (s .args .setting))) (bits
 unfolding Dy
 half s = mul (num (pos 8) tt) (of-nat ((s .args .setting .w + 8) / 16) {a = 32} (half-small s) tt) tt
 
+least : (c : tie.After-least-y) → Is w64 (leastY (start (c .before) .args .path .now)) (bits (c .least-y .result)) 262144
+least c = let s = start (c .before) in call (c .least-y .ensures) (known (least-small (s .args .path .now) (s .pre .1 .1 .0)) tt)
+
 lowest : (c : tie.After-least-y) → let s = start (c .before) in
-    Is w64 (c .least-y .result -ℤ pos 8 *ℤ pos (Dy (s .args .setting))) (bits (c .least-y .result) ⊖ (bits (pos 8) ⊗ ((s .args .setting .w + 8) / 16))) 262400
-lowest c = sub (known (c .least-y .ensures .1) tt) (half (start (c .before))) tt
+    Is w64 (leastY (s .args .path .now) -ℤ pos 8 *ℤ pos (Dy (s .args .setting))) (bits (c .least-y .result) ⊖ (bits (pos 8) ⊗ ((s .args .setting .w + 8) / 16))) 262400
+lowest c = sub (least c) (half (start (c .before))) tt
+
+greatest : (c : tie.After-greatest-y) → Is w64 (greatestY (start (at-least (at-first c) .before) .args .path .now)) (bits (c .greatest-y .result)) 262144
+greatest c = let s = start (at-least (at-first c) .before) in call (c .greatest-y .ensures) (known (greatest-small (s .args .path .now) (s .pre .1 .1 .0)) tt)
 
 highest : (c : tie.After-greatest-y) → let s = start (at-least (at-first c) .before) in
-    Is w64 (c .greatest-y .result +ℤ pos 8 *ℤ pos (Dy (s .args .setting))) (bits (c .greatest-y .result) ⊕ (bits (pos 8) ⊗ ((s .args .setting .w + 8) / 16))) 262400
-highest c = add (known (c .greatest-y .ensures .1) tt) (half (start (at-least (at-first c) .before))) tt
+    Is w64 (greatestY (s .args .path .now) +ℤ pos 8 *ℤ pos (Dy (s .args .setting))) (bits (c .greatest-y .result) ⊕ (bits (pos 8) ⊗ ((s .args .setting .w + 8) / 16))) 262400
+highest c = add (greatest c) (half (start (at-least (at-first c) .before))) tt
 
 -- ---- the rows that have something black lie between
 first-past : (c : tie.After-rows-past) → let s = start (at-least c .before) in
-    Past (at-least c .least-y .result -ℤ pos 8 *ℤ pos (Dy (s .args .setting))) (s .args .first) (s .args .s .top + 1) (c .rows-past .result)
+    Past (leastY (s .args .path .now) -ℤ pos 8 *ℤ pos (Dy (s .args .setting))) (s .args .first) (s .args .s .top + 1) (c .rows-past .result)
 first-past c =
     let s = start (at-least c .before) in
     subst (λ (y : ℤ). Past y (s .args .first) (s .args .s .top + 1) (c .rows-past .result)) (lowest (at-least c) .reads) (c .rows-past .ensures)
 
 last-past : (c : tie.After-rows-past2) → let s = begun c in
-    Past (at-greatest c .greatest-y .result +ℤ pos 8 *ℤ pos (Dy (s .args .setting))) (s .args .first) (s .args .s .top + 1) (c .rows-past2 .result)
+    Past (greatestY (s .args .path .now) +ℤ pos 8 *ℤ pos (Dy (s .args .setting))) (s .args .first) (s .args .s .top + 1) (c .rows-past2 .result)
 last-past c =
     let s = begun c in
     subst (λ (y : ℤ). Past y (s .args .first) (s .args .s .top + 1) (c .rows-past2 .result)) (highest (at-greatest c) .reads) (c .rows-past2 .ensures)
@@ -70,13 +78,13 @@ none-before : (c : tie.After-rows-past2) → let a = begun c .args in
 none-before c =
     let s = begun c in
     let f = at-first (at-greatest c) in
-    clear-before (s .pre .0) (s .args .path .now) (at-least f .least-y .result) (s .args .first) (s .args .s .top + 1) (at-least f .least-y .ensures .0) (first-past f)
+    clear-before (s .pre .0) (s .args .path .now) (leastY (s .args .path .now)) (s .args .first) (s .args .s .top + 1) (none-under (s .args .path .now)) (first-past f)
 
 none-past : (c : tie.After-rows-past2) → let a = begun c .args in
     (j x : ℕ) → c .rows-past2 .result ≤ j → j < a .s .top + 1 → pathBlack (pen (a .setting)) (a .path .now) j x ≡ false
 none-past c =
     let s = begun c in
-    clear-past (s .pre .0) (s .args .path .now) (at-greatest c .greatest-y .result) (s .args .first) (s .args .s .top + 1) (at-greatest c .greatest-y .ensures .0) (last-past c)
+    clear-past (s .pre .0) (s .args .path .now) (greatestY (s .args .path .now)) (s .args .first) (s .args .s .top + 1) (none-over (s .args .path .now)) (last-past c)
 
 add-half : tie.Need-add-half
 add-half c = search needs
@@ -91,7 +99,7 @@ least-y-requires : tie.Need-least-y-requires
 least-y-requires c κs = search needs
 
 sub-rows-past : tie.Need-sub-rows-past
-sub-rows-past c = sub-fits (known (c .least-y .ensures .1) tt) (half (start (c .before))) tt
+sub-rows-past c = sub-fits (least c) (half (start (c .before))) tt
 
 add-rows-past : tie.Need-add-rows-past
 add-rows-past c = search needs
@@ -104,7 +112,7 @@ greatest-y-requires : tie.Need-greatest-y-requires
 greatest-y-requires c κs = search needs
 
 add-rows-past-2 : tie.Need-add-rows-past-2
-add-rows-past-2 c = add-fits (known (c .greatest-y .ensures .1) tt) (half (start (at-least (at-first c) .before))) tt
+add-rows-past-2 c = add-fits (greatest c) (half (start (at-least (at-first c) .before))) tt
 
 add-rows-past-3 : tie.Need-add-rows-past-3
 add-rows-past-3 c = search needs

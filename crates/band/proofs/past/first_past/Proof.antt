@@ -12,8 +12,8 @@ use Rattle.integers.proofs.Words.{bits}
 use Rattle.ties.specs.Below.{below}
 use Rattle.band.specs.Rows.{FirstPast}
 use Rattle.band.proofs.PastRows.{first-next, first-here}
-use Rattle.band.proofs.reach.first_past.Statement.{statement}
-use Rattle.band.proofs.reach.first_past.Tie as tie
+use Rattle.band.proofs.past.first_past.Statement.{statement}
+use Rattle.band.proofs.past.first_past.Tie as tie
 
 y : (s : tie.Start) → Is w64 (s .args .y) (bits (s .args .y)) (2 ^ 24)
 y s = known (s .pre) tt

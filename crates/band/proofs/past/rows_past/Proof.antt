@@ -14,8 +14,8 @@ use Rattle.integers.proofs.Words.{bits}
 use Rattle.flanks.proofs.Numbers.{number16}
 use Rattle.band.specs.Rows.{FirstPast, Past}
 use Rattle.band.proofs.PastRows.{past-all, past-none, past-some, among}
-use Rattle.band.proofs.reach.rows_past.Statement.{statement}
-use Rattle.band.proofs.reach.rows_past.Tie as tie
+use Rattle.band.proofs.past.rows_past.Statement.{statement}
+use Rattle.band.proofs.past.rows_past.Tie as tie
 
 first : (c : tie.After-first-past) → Is w64 (c .first-past .result) (bits (c .first-past .result)) (2 ^ 25)
 first c = known (c .first-past .ensures .1) tt
