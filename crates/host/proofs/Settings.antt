@@ -1,18 +1,25 @@
 -- The setting of a call: refused, or the pen that is built is its own.
 use Prim.Native.Nat.{ℕ}
-use mathlib.Core.Path.{_≡_, refl}
+use mathlib.Core.Path.{_≡_, refl, subst}
 use mathlib.Core.Bool.{true, false}
 use mathlib.Core.List.{List}
 use Rattle.limits.specs.Refusal.{setting, refuse}
 use Rattle.setting.specs.declared.Setting.{Setting}
 use Rattle.setting.specs.declared.Checked.the-variants as checked·
+use Rattle.setting.specs.Setting.{Taken}
 use Rattle.setting.specs.Answer.{checked}
+use Rattle.setting.proofs.Limits.{taken-iff}
+use Rattle.setting.proofs.Answers.{checked-taken}
 use Rattle.pen.specs.Answer.{built}
 use Rattle.checks.specs.Answer.{answerOf}
 use Rattle.outcome.specs.Outcome.{coded}
 use Rattle.outcome.proofs.Pens.{built-taken}
 use Rattle.host.specs.Host.{hostRow, hostPackedRow}
 use Rattle.host.specs.Call.{runsWith, packedWith, bytesCall}
+
+-- a setting that the check takes is taken
+pub set-taken : (σ s : Setting) → checked σ ≡ checked·.Taken s → Taken s
+set-taken σ s e = let h = checked-taken σ s e in subst Taken (h .1) (taken-iff σ .0 (h .0))
 
 -- ---- the two calls by their cases
 module _ (σ : Setting) (path : List ℕ) (columns rows j : ℕ) (b : List ℕ) where

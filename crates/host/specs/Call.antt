@@ -1,21 +1,22 @@
 -- What a call is asked, in one record, and what it answers; inside the crate only. `row-goes-on` and `packed-goes-on` of proofs/Settings: this is what Host
 -- says of the two functions.
 use Prim.Native.Nat.{ℕ, _*_, _/_}
+use mathlib.Core.Path.{_≡_}
 use mathlib.Core.Bool.{cond}
 use mathlib.Core.List.{List}
 use lib.Dec.{leb}
 use lib.ListN.{length}
-use lib.IntN.{ℤ}
+use lib.IntN.{ℤ, pos}
 use Rattle.limits.specs.declared.Verdict.{Verdict}
-use Rattle.limits.specs.Refusal.{room, refuse, _then_}
+use Rattle.limits.specs.Refusal.{room, refuse}
 use Rattle.wire.specs.Read.{entriesOf}
 use Rattle.wire.specs.Write.{encoded}
 use Rattle.plane.specs.Point.{Pt}
 use Rattle.pen.specs.Answer.{penCorners, built}
 use Rattle.stroke.specs.Sweep.{pathPoints}
-use Rattle.stroke.specs.Runs.{rowRuns}
+use Rattle.stroke.specs.Runs.{blackAt, rowRuns}
 use Rattle.checks.specs.declared.Answer.{Answer}
-use Rattle.checks.specs.Checks.{pathVerdict, rasterVerdict, rowVerdict, verdict, callVerdict}
+use Rattle.checks.specs.Checks.{verdict, callVerdict}
 use Rattle.checks.specs.Answer.{answerOf, given}
 use Rattle.outcome.specs.Outcome.{lengthVerdict, coded, Outcome, told}
 use Rattle.packed.specs.Packed.{packedOffer}
@@ -40,12 +41,13 @@ callWith cs c v path b = cond (c .packed) (packedWith cs c v path b) (runsWith c
 abbrev pub builtCorners : Call → List Pt
 builtCorners c = penCorners (built (c .setting) .pen)
 
--- for a path of coordinates; the first of its checks
+-- two pens blacken the same columns of the row that is asked for
+abbrev pub SameRow : List Pt → List Pt → Call → List ℤ → Type 0
+SameRow cs ds c path = (x : ℕ) → blackAt cs (pathPoints path) (pos (c .row)) (pos x) ≡ blackAt ds (pathPoints path) (pos (c .row)) (pos x)
+
+-- for a path of coordinates
 abbrev pub entriesVerdict : Call → List ℤ → Verdict
 entriesVerdict c path = verdict path (c .columns) (c .rows) (c .row)
-
-abbrev pub earlyVerdict : Call → List ℤ → Verdict
-earlyVerdict c path = pathVerdict path then rasterVerdict (c .columns) (c .rows) then rowVerdict (c .rows) (c .row)
 
 abbrev pub entriesCall : Call → List ℤ → List ℕ → Outcome
 entriesCall c path b = callWith (builtCorners c) c (entriesVerdict c path) path b

@@ -1,4 +1,5 @@
-// What a row call answers for a setting and a path of bytes.
+// What a row call answers for a setting that is taken and a path of bytes.
+use crate::pens::pen_for;
 use checks::Answer;
 use limits::Verdict;
 use setting::Setting;
@@ -8,8 +9,9 @@ ghost use lib.ListN.{length};
 ghost use Rattle.limits.specs.Sizes.{entriesMax};
 ghost use Rattle.limits.specs.declared.Verdict.the-variants.{Passed};
 ghost use Rattle.wire.specs.Read.{entriesOf};
+ghost use Rattle.setting.specs.Setting.{Taken};
 ghost use Rattle.outcome.specs.Fit.{Fit};
-ghost use Rattle.host.specs.Call.{written, runsWith, packedWith, callWith, entriesVerdict, earlyVerdict, entriesCall, bytesCall};
+ghost use Rattle.host.specs.Call.{written, runsWith, packedWith, callWith, entriesVerdict, entriesCall, bytesCall};
 ghost use Rattle.plane.specs.Point.{corners};
 
 // How many entries a short path has at most, and how many bytes.
@@ -118,45 +120,24 @@ fn of_corners<'a>(
     entries_runs(call, xs, ys, count, path, bytes)
 }
 
-// The checks that read no coordinate.
-fn early_check(call: Call, path: &[i32]) -> Verdict
-    ensures { λ r. ⌜ r ≡ earlyVerdict call (now (path .entry)) ⌝ }
-{
-    let of_path = checks::path_check(path);
-    let Verdict::Passed = of_path else {
-        return of_path;
-    };
-    let of_raster = checks::raster_check(call.columns, call.rows);
-    let Verdict::Passed = of_raster else {
-        return of_raster;
-    };
-    checks::row_check(call.rows, call.row)
-}
-
-// A pen costs as much as most rows do, and is built only where these checks pass. It is built here,
-// and not below, so that its work and the list of runs do not stand on the stack at once.
+// The checks come first, and the pen is built only where they pass. It is built here, and not below,
+// so that its work and the list of runs do not stand on the stack at once.
 fn of_entries(call: Call, path: &[i32], bytes: &mut [u8]) -> u64
+    requires { ⌜ Taken (call .setting) ⌝ }
     ensures { λ r. ⌜ record { answer = r; bytes = now (bytes .exit) } ≡ entriesCall call (now (path .entry)) (now (bytes .entry)) ⌝ }
 {
-    let early = early_check(call, path);
-    let Verdict::Passed = early else {
-        return outcome::refused(early);
+    let checked = checks::check(path, call.columns, call.rows, call.row);
+    let Verdict::Passed = checked else {
+        return outcome::refused(checked);
     };
-    let s = call.setting;
-    let built = pen::build(s.w, s.p, s.q);
-    of_corners(
-        call,
-        &built.pen.x,
-        &built.pen.y,
-        built.pen.count,
-        path,
-        bytes,
-    )
+    let pen = pen_for(call, path);
+    of_corners(call, &pen.x, &pen.y, pen.count, path, bytes)
 }
 
 // The path's coordinates go into the given array.
 fn decoded(call: Call, path: &[u8], entries: &mut [i32], bytes: &mut [u8]) -> u64
-    requires { ⌜ length (now path) ≤ 4 * length (now entries) ⌝ }
+    requires taken { ⌜ Taken (call .setting) ⌝ }
+    requires short { ⌜ length (now path) ≤ 4 * length (now entries) ⌝ }
     ensures { λ r. ⌜ record { answer = r; bytes = now (bytes .exit) } ≡ entriesCall call (entriesOf (now (path .entry))) (now (bytes .entry)) ⌝ }
 {
     wire::decode(path, entries);
@@ -166,7 +147,8 @@ fn decoded(call: Call, path: &[u8], entries: &mut [i32], bytes: &mut [u8]) -> u6
 
 // Most paths are short, and to clear an array for the longest would cost more than most rows do.
 fn short(call: Call, path: &[u8], bytes: &mut [u8]) -> u64
-    requires { ⌜ length (now path) ≤ 256 ⌝ }
+    requires taken { ⌜ Taken (call .setting) ⌝ }
+    requires short { ⌜ length (now path) ≤ 256 ⌝ }
     ensures { λ r. ⌜ record { answer = r; bytes = now (bytes .exit) } ≡ entriesCall call (entriesOf (now (path .entry))) (now (bytes .entry)) ⌝ }
 {
     let mut entries: [i32; SHORT] = [0; SHORT];
@@ -174,7 +156,8 @@ fn short(call: Call, path: &[u8], bytes: &mut [u8]) -> u64
 }
 
 fn long(call: Call, path: &[u8], bytes: &mut [u8]) -> u64
-    requires { ⌜ length (now path) ≤ 4 * entriesMax ⌝ }
+    requires taken { ⌜ Taken (call .setting) ⌝ }
+    requires short { ⌜ length (now path) ≤ 4 * entriesMax ⌝ }
     ensures { λ r. ⌜ record { answer = r; bytes = now (bytes .exit) } ≡ entriesCall call (entriesOf (now (path .entry))) (now (bytes .entry)) ⌝ }
 {
     let mut entries: [i32; limits::ENTRIES_MAX] = [0; limits::ENTRIES_MAX];
@@ -183,6 +166,7 @@ fn long(call: Call, path: &[u8], bytes: &mut [u8]) -> u64
 
 // The length of the bytes is checked before they are read.
 pub fn of_bytes(call: Call, path: &[u8], bytes: &mut [u8]) -> u64
+    requires { ⌜ Taken (call .setting) ⌝ }
     ensures { λ r. ⌜ record { answer = r; bytes = now (bytes .exit) } ≡ bytesCall call (now (path .entry)) (now (bytes .entry)) ⌝ }
 {
     let of_bytes = outcome::bytes_check(path.len());

@@ -6,7 +6,7 @@ use Rattle.setting.specs.declared.Setting.{Setting}
 use Rattle.setting.specs.declared.Checked.the-variants.{Taken}
 use Rattle.setting.specs.Answer.{checked}
 use Rattle.outcome.proofs.Fits.{refused-code}
-use Rattle.host.proofs.Settings.{packed-refused, packed-goes-on}
+use Rattle.host.proofs.Settings.{set-taken, packed-refused, packed-goes-on}
 use Rattle.host.proofs.zimarolfo_packed_row.Statement.{statement}
 use Rattle.host.proofs.zimarolfo_packed_row.Tie as tie
 
@@ -44,7 +44,7 @@ returns c =
     packed-refused (given s) (a .path .now) (a .columns) (a .rows) (a .row) (a .bytes .now) (sym (k .check .ensures) ∙ c .before .enum-told .given .1) (refused-code setting (c .refused .ensures) refl)
 
 of-bytes-requires : tie.Need-of-bytes-requires
-of-bytes-requires c κs = search needs
+of-bytes-requires c κs = let p = c .before .before in set-taken (given (start (p .before .before))) (taken p) (is-taken p)
 
 same-length : tie.Need-same-length
 same-length c = search needs

@@ -22,7 +22,7 @@ front c = take (length (start c .args .path .now) / 4) (c .decode .last .1 .0)
 front-is : (c : tie.After-decode) → front c ≡ entriesOf (start c .args .path .now)
 front-is c =
     let s = start c in
-    ap (take (length (s .args .path .now) / 4)) (c .decode .ensures) ∙ decoded-front (s .args .path .now) (s .args .entries .now) (s .pre)
+    ap (take (length (s .args .path .now) / 4)) (c .decode .ensures) ∙ decoded-front (s .args .path .now) (s .args .entries .now) (s .pre .1)
 
 decode-requires : tie.Need-decode-requires
 decode-requires c κs = search needs

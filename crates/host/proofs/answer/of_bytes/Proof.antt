@@ -66,7 +66,7 @@ returns-2 c =
     (sym (length-passed (a .path .now) (read passed)))
 
 long-requires : tie.Need-long-requires
-long-requires c κs = let passed = c .before .before in bytes-short (start (passed .before .before) .args .path .now) (read passed)
+long-requires c κs = let passed = c .before .before in let s = start (passed .before .before) in (s .pre, bytes-short (s .args .path .now) (read passed))
 
 same-length-2 : tie.Need-same-length-2
 same-length-2 c = search needs

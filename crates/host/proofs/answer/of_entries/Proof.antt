@@ -1,28 +1,35 @@
--- What the first checks refuse is refused; otherwise the pen is the one that is built.
+-- What the checks refuse is refused; otherwise the pen gives the row of the one that is built.
 use Prim.Native.Nat.{ℕ}
 use mathlib.Core.Path.{sym, ap, subst, _∙_}
 use borrow.Author.Needs.{needs}
-use Rattle.limits.specs.Sizes.{entriesMax}
-use Rattle.pen.specs.declared.Built.{Built}
+use Rattle.limits.specs.Sizes.{entriesMax, Drawable}
 use Rattle.pen.specs.Answer.{penCorners}
+use Rattle.checks.proofs.Verdicts.{verdict-passed}
 use Rattle.outcome.proofs.Fits.{small-code}
-use Rattle.host.specs.Call.{builtCorners, callWith, entriesVerdict}
-use Rattle.outcome.proofs.Verdicts.{Small}
-use Rattle.host.proofs.Verdicts.{early-small, early-refused}
+use Rattle.outcome.proofs.Verdicts.{Small, small-verdict}
+use Rattle.host.specs.Call.{builtCorners, entriesVerdict}
 use Rattle.host.proofs.Outcomes.{call-refused}
+use Rattle.host.proofs.SameRows.{call-same}
 use Rattle.host.proofs.answer.of_entries.Statement.{statement}
 use Rattle.host.proofs.answer.of_entries.Tie as tie
 
--- where the first checks have answered
-abbrev start : tie.After-early-check → tie.Start
+-- where the checks have answered
+abbrev start : tie.After-check → tie.Start
 start c = c .before .before
 
 -- where the parts of the pen have been lent one after the other
-abbrev built : tie.After-of-corners-arg5 → tie.After-build
-built c = let lent = c .before .before .before in lent .before .before .before
+abbrev chosen : tie.After-of-corners-arg5 → tie.After-pen-for
+chosen c = let lent = c .before .before .before in lent .before .before .before
 
-early-check-requires : tie.Need-early-check-requires
-early-check-requires c κs = search needs
+-- where they are passed
+drawable : (c : tie.After-enum-told) → let a = start (c .before .before) .args in Drawable (a .path .now) (a .call .columns) (a .call .row)
+drawable c =
+    let k = c .before .before in
+    let a = start k .args in
+    verdict-passed (a .path .now) (a .call .columns) (a .call .rows) (a .call .row) (sym (k .check .ensures) ∙ c .enum-told .given .1)
+
+check-requires : tie.Need-check-requires
+check-requires c κs = search needs
 
 enum-told : tie.Need-enum-told
 enum-told c = search needs
@@ -37,13 +44,14 @@ returns : tie.Need-returns
 returns c =
     let k = c .before .before .before in
     let a = start k .args in
-    let e = k .early-check .ensures in
+    let e = k .check .ensures in
     let f = c .before .enum-told2 .given .1 in
-    ap (λ (n : ℕ). record { answer = n; bytes = a .bytes .now }) (small-code (c .refused .ensures) f (subst (Small entriesMax) (sym e) (early-small (a .call) (a .path .now))))
-    ∙ call-refused (builtCorners (a .call)) (a .call) (entriesVerdict (a .call) (a .path .now)) (a .path .now) (a .bytes .now) (early-refused (a .call) (a .path .now) e f)
+    ap (λ (n : ℕ). record { answer = n; bytes = a .bytes .now })
+    (small-code (c .refused .ensures) f (subst (Small entriesMax) (sym e) (small-verdict (a .path .now) (a .call .columns) (a .call .rows) (a .call .row))))
+    ∙ call-refused (builtCorners (a .call)) (a .call) (entriesVerdict (a .call) (a .path .now)) (a .path .now) (a .bytes .now) (sym e ∙ f)
 
-build-requires : tie.Need-build-requires
-build-requires c κs = search needs
+pen-for-requires : tie.Need-pen-for-requires
+pen-for-requires c κs = (start (c .before .before) .pre, drawable c)
 
 of-corners-requires : tie.Need-of-corners-requires
 of-corners-requires c κs = search needs
@@ -54,22 +62,21 @@ same-length c = search needs
 returns-2 : tie.Need-returns-2
 returns-2 c =
     let drawn = c .before .before in
-    let b = built (drawn .before) in
-    let k = b .before .before .before .before in
-    let a = start k .args in
+    let p = chosen (drawn .before) in
+    let a = start (p .before .before .before) .args in
     drawn .of-corners .ensures
-    ∙ ap (λ (r : Built). callWith (penCorners (r .pen)) (a .call) (entriesVerdict (a .call) (a .path .now)) (a .path .now) (a .bytes .now)) (b .build .ensures)
+    ∙ call-same (penCorners (p .pen-for .result)) (builtCorners (a .call)) (a .call) (entriesVerdict (a .call) (a .path .now)) (a .path .now) (a .bytes .now) (p .pen-for .ensures)
 
 pub of-entries-spec : {M : Type 1} → statement M
 of-entries-spec =
     tie.close
     (tie.spec
-    early-check-requires
+    check-requires
     enum-told
     enum-told-2
     refused-requires
     returns
-    build-requires
+    pen-for-requires
     of-corners-requires
     same-length
     returns-2)

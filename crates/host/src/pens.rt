@@ -1,0 +1,48 @@
+// The pen that a row is drawn with. To build one costs as much as most rows do, and a stroke of a
+// page has nothing in most of its rows: so first the path is asked whether it reaches the row.
+use crate::answer::Call;
+use limits::PEN_MAX;
+use pen::Pen;
+use reach::greatest_y;
+use reach::least_y;
+use ties::below;
+ghost use mathlib.Core.Path.{_≡_};
+ghost use mathlib.Core.Bool.{true};
+ghost use mathlib.Core.List.{[]};
+ghost use Rattle.limits.specs.Sizes.{Drawable};
+ghost use Rattle.setting.specs.Setting.{Taken};
+ghost use Rattle.pen.specs.Answer.{penCorners};
+ghost use Rattle.host.specs.Call.{builtCorners, SameRow};
+
+// Whether the row lies under all of the stroke, or over it: half the pen's height past the path.
+fn misses(call: Call, path: &[i32]) -> bool
+    requires taken { ⌜ Taken (call .setting) ⌝ }
+    requires checked { ⌜ Drawable (now path) (call .columns) (call .row) ⌝ }
+    ensures { λ r. ⌜ (r ≡ true → SameRow [] (builtCorners call) call (now (path .entry))) ⌝ }
+{
+    let half = 8 * ((call.setting.w + 8) / 16) as i64;
+    let h = 16 * (call.row as i64);
+    if below(h, least_y(path) - half) {
+        return true;
+    }
+    !below(h, greatest_y(path) + half)
+}
+
+// The setting's pen; and one without corners, which blackens nothing either, where the path misses
+// the row.
+pub fn pen_for(call: Call, path: &[i32]) -> Pen
+    requires taken { ⌜ Taken (call .setting) ⌝ }
+    requires checked { ⌜ Drawable (now path) (call .columns) (call .row) ⌝ }
+    ensures { λ r. ⌜ SameRow (penCorners r) (builtCorners call) call (now (path .entry)) ⌝ }
+{
+    if misses(call, path) {
+        return Pen {
+            count: 0,
+            x: [0; PEN_MAX],
+            y: [0; PEN_MAX],
+        };
+    }
+    let s = call.setting;
+    let built = pen::build(s.w, s.p, s.q);
+    built.pen
+}
