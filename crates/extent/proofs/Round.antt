@@ -1,12 +1,18 @@
--- The edges of a pen one after the other, and what each leaves of a row; then the two sides along the path.
+-- Where the line of a moved edge stands; the edges of a pen one after the other, and what each leaves of a row; then the two sides along the path.
 use Prim.Native.Nat.{ℕ, suc, _+_, _≤_, _<_}
 use native.Mathlib.Omega.{arith}
 use native.Mathlib.Numerals.{add-one}
-use mathlib.Core.Path.{_≡_, refl, sym, ap, _∙_}
+use mathlib.Core.Path.{_≡_, refl, sym, ap, ap₂, _∙_}
+use mathlib.Core.Logic.{inl, inr}
 use mathlib.Core.Bool.{true, false}
 use mathlib.Core.List.{List, [], _∷_, _++_, map}
 use lib.ListN.{length, drop, drop-of-length-le}
-use lib.IntN.{ℤ, negℤ, _-ℤ_}
+use lib.IntN.{ℤ, pos, negℤ, _+ℤ_, _-ℤ_, _*ℤ_}
+use Rattle.integers.specs.Orders.{_≼_, _≺_}
+use Rattle.integers.specs.Compare.{maxZ}
+use Rattle.integers.proofs.Ring.{ring, reify}
+use Rattle.integers.proofs.Order.{add-assoc, sub-nn}
+use Rattle.integers.proofs.Tests.{max-case, max-first, max-second}
 use Rattle.plane.specs.Point.{Pt, same, corners}
 use Rattle.plane.specs.Polygon.{Side, edge, edges}
 use Rattle.plane.proofs.Read.{origin, place, corners-long, from-place}
@@ -15,6 +21,40 @@ use Rattle.stroke.specs.Sweep.{Seg}
 use Rattle.stroke.specs.Sides.{moved, touching, pathSides}
 use Rattle.stroke.specs.Extent.{Left, narrow, narrowed}
 
+-- ---- the line of an edge, at A and as much further out as B is
+-- the further one of two numbers, from the first
+further-one : (x y : ℤ) → x +ℤ maxZ (y -ℤ x) (pos 0) ≡ maxZ x y
+further-one x y = elim (max-case x y) [
+  | inl h ↦ ap (λ (z : ℤ). x +ℤ z) (max-first (y -ℤ x) (pos 0) (sub-nn (h .1))) ∙ there x y ∙ sym (h .0)
+  | inr h ↦ ap (λ (z : ℤ). x +ℤ z) (max-second (y -ℤ x) (pos 0) (short x y (h .1))) ∙ here x ∙ sym (h .0)
+]
+  where
+    there : (x y : ℤ) → x +ℤ (y -ℤ x) ≡ y
+    there = ring 2 _ (simp reify (omega arith))
+
+    short : (x y : ℤ) → y ≺ x → y -ℤ x ≼ pos 0
+    short = ring 2 _ (λ ρ. simp (reify, ρ) (omega arith))
+
+    here : (x : ℤ) → x +ℤ pos 0 ≡ x
+    here = ring 1 _ (λ ρ. simp (reify, ρ) (omega arith))
+
+pub moved-at : (a b px py ax ay bx by : ℤ) →
+    a *ℤ (pos 8 *ℤ px +ℤ ax) +ℤ b *ℤ (pos 8 *ℤ py +ℤ ay) +ℤ maxZ (a *ℤ (bx -ℤ ax) +ℤ b *ℤ (by -ℤ ay)) (pos 0) ≡
+    pos 8 *ℤ (a *ℤ px +ℤ b *ℤ py) +ℤ maxZ (a *ℤ ax +ℤ b *ℤ ay) (a *ℤ bx +ℤ b *ℤ by)
+moved-at a b px py ax ay bx by =
+    let P = a *ℤ px +ℤ b *ℤ py in
+    let A = a *ℤ ax +ℤ b *ℤ ay in
+    let B = a *ℤ bx +ℤ b *ℤ by in
+    ap₂ (λ (x y : ℤ). x +ℤ maxZ y (pos 0)) (at-A a b px py ax ay) (to-B a b ax ay bx by)
+    ∙ add-assoc (pos 8 *ℤ P) A (maxZ (B -ℤ A) (pos 0)) ∙ ap (λ (z : ℤ). pos 8 *ℤ P +ℤ z) (further-one A B)
+  where
+    at-A : (a b px py ax ay : ℤ) → a *ℤ (pos 8 *ℤ px +ℤ ax) +ℤ b *ℤ (pos 8 *ℤ py +ℤ ay) ≡ pos 8 *ℤ (a *ℤ px +ℤ b *ℤ py) +ℤ (a *ℤ ax +ℤ b *ℤ ay)
+    at-A = ring 6 _ (λ ρ. simp (reify, ρ) (omega arith))
+
+    to-B : (a b ax ay bx by : ℤ) → a *ℤ (bx -ℤ ax) +ℤ b *ℤ (by -ℤ ay) ≡ a *ℤ bx +ℤ b *ℤ by -ℤ (a *ℤ ax +ℤ b *ℤ ay)
+    to-B = ring 6 _ (simp reify (omega arith))
+
+-- ---- the edges
 module _ (n : ℕ) (xs ys : List ℤ) (h : n ≤ length xs) (k : n ≤ length ys) where
   -- what is left after the edges from place i on
   pub leftSince : ℤ → Seg → ℕ → Left → Left

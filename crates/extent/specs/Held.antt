@@ -1,15 +1,14 @@
 -- What the code's structs hold, in the words of the definitions. These are asked and promised inside the crate only; no promise to its callers is made
 -- of them.
-use Prim.Native.Nat.{ℕ, _^_, _≤_, _<_}
+use Prim.Native.Nat.{ℕ, _^_, _≤_}
 use mathlib.Core.Bool.{Bool, true, cond}
 use mathlib.Core.List.{List}
 use lib.ListN.{length}
-use lib.IntN.{ℤ, pos, _+ℤ_, _*ℤ_}
+use lib.IntN.{ℤ, pos, _+ℤ_, _-ℤ_, _*ℤ_}
 use lib.Signed.{leZ, ltZ}
 use Rattle.integers.specs.Bound.{Abs}
 use Rattle.integers.specs.Floor.{floorDiv}
-use Rattle.plane.specs.Point.{pt}
-use Rattle.limits.specs.Sizes.{rasterMax}
+use Rattle.plane.specs.Point.{Pt, pt}
 use Rattle.extent.specs.declared.limit.Fraction.{Fraction}
 use Rattle.extent.specs.declared.limit.Limits.{Limits}
 use Rattle.extent.specs.declared.side.Ends.{Ends}
@@ -30,9 +29,9 @@ atLeast f = cond (ltZ (pos 0) (f .by)) (at (lastTo (f .num) (f .by) +ℤ pos 1))
 abbrev pub left : Limits → Left
 left s = record { some = s .some; least = atLeast (s .least); most = atMost (s .most) }
 
--- a flat side, with the normal (0, b), leaves the row whose centres are at that place along it
-abbrev pub flatLeaves : ℤ → ℤ → ℤ → Bool
-flatLeaves b c place = cond (kept (pos 0) b) (leZ place c) (ltZ place c)
+-- a flat side, with the normal (0, b), leaves row 0 where it has that room there
+abbrev pub flatLeaves : ℤ → ℤ → Bool
+flatLeaves b room = cond (kept (pos 0) b) (leZ (pos 0) room) (ltZ (pos 0) room)
 
 -- before the first side everything is left
 abbrev pub start : Left
@@ -41,39 +40,39 @@ start = record { some = true; least = free; most = free }
 -- a fraction small enough that the product of a num and a by fits 64 bits
 pub record Fair (f : Fraction) : Type 0 where
   pub num-small : Abs (f .num) (2 ^ 40)
-  pub by-small : Abs (f .by) (2 ^ 19)
+  pub by-small : Abs (f .by) (2 ^ 20)
 
 -- both fractions are so
 pub record Steady (s : Limits) : Type 0 where
   pub least : Fair (s .least)
   pub most : Fair (s .most)
 
--- a side's numbers, for a path within the limits
-pub record Bounded (a b c : ℤ) : Type 0 where
-  pub a-small : Abs a (2 ^ 19)
-  pub b-small : Abs b (2 ^ 19)
-  pub c-small : Abs c (2 ^ 39)
-
 -- a normal's numbers: those of an edge, and those of the path's direction
 pub record Normal (a b : ℤ) : Type 0 where
-  pub a-small : Abs a (2 ^ 19)
-  pub b-small : Abs b (2 ^ 19)
+  pub a-small : Abs a (2 ^ 20)
+  pub b-small : Abs b (2 ^ 20)
 
 -- a corner's numbers, which a byte holds
 pub record Corner (x y : ℤ) : Type 0 where
   pub x-small : Abs x 128
   pub y-small : Abs y 128
 
--- a segment and a row within the limits
-pub record Near (g : Ends) (row : ℕ) : Type 0 where
+-- a segment within the limits, its heights counted from a row within them
+pub record Near (g : Ends) : Type 0 where
   pub ax-small : Abs (g .ax) (2 ^ 18)
-  pub ay-small : Abs (g .ay) (2 ^ 18)
+  pub ay-small : Abs (g .ay) (2 ^ 19)
   pub bx-small : Abs (g .bx) (2 ^ 18)
-  pub by-small : Abs (g .by) (2 ^ 18)
-  pub low : row < rasterMax
+  pub by-small : Abs (g .by) (2 ^ 19)
 
 abbrev pub ends : Ends → Seg
 ends g = record { from = pt (g .ax) (g .ay); to = pt (g .bx) (g .by) }
+
+-- a point and a segment, their heights counted from row j: what row j was to them row 0 is
+abbrev pub lowered : ℤ → Pt → Pt
+lowered j P = pt (P .x) (P .y -ℤ pos 16 *ℤ j)
+
+abbrev pub fromRow : ℤ → Seg → Seg
+fromRow j g = record { from = lowered j (g .from); to = lowered j (g .to) }
 
 -- both arrays hold n corners
 pub record Held (n : ℕ) (xs ys : List ℤ) : Type 0 where

@@ -1,17 +1,19 @@
 // The black columns of one segment in one row.
 //
 // The way of the data: the segment and the row are checked against document 01's limits, the sides
-// of the segment's sweep (side) narrow the row's columns one after the other (limit), and what is
-// left is the answer. What each function promises is cited from specs/.
+// of the segment's sweep (side), counted from the row, narrow the row's columns one after the other
+// (limit), and what is left is the answer. What each function promises is cited from specs/.
 use integers::min_usize;
 use pen::Pen;
 ghost use mathlib.Core.Path.{_≡_};
 ghost use mathlib.Core.Bool.{_&&_};
+ghost use Prim.Native.Nat.{_<_};
+ghost use lib.IntN.{pos};
 ghost use Rattle.plane.specs.Point.{corners};
 ghost use Rattle.pen.specs.Answer.{penCorners};
-ghost use Rattle.limits.specs.Sizes.{inRange};
+ghost use Rattle.limits.specs.Sizes.{inRange, rasterMax};
 ghost use Rattle.extent.specs.Answer.{allowed, seg, extentOf};
-ghost use Rattle.extent.specs.Held.{ends};
+ghost use Rattle.extent.specs.Held.{ends, fromRow};
 
 mod limit;
 mod side;
@@ -39,15 +41,17 @@ fn allowed(ax: i32, ay: i32, bx: i32, by: i32, row: u64) -> bool
     both(ax, ay) && (both(bx, by) && row < limits::RASTER_MAX as u64)
 }
 
-// The ends in the numbers that the rest counts with.
-fn wide(ax: i32, ay: i32, bx: i32, by: i32) -> Ends
-    ensures { λ r. ⌜ ends r ≡ seg ax ay bx by ⌝ }
+// The ends in the numbers that the rest counts with: heights from the row.
+fn from_row(ax: i32, ay: i32, bx: i32, by: i32, row: u64) -> Ends
+    requires { ⌜ row < rasterMax ⌝ }
+    ensures { λ r. ⌜ ends r ≡ fromRow (pos row) (seg ax ay bx by) ⌝ }
 {
+    let at = 16 * (row as i64);
     Ends {
         ax: ax as i64,
-        ay: ay as i64,
+        ay: ay as i64 - at,
         bx: bx as i64,
-        by: by as i64,
+        by: by as i64 - at,
     }
 }
 
@@ -71,12 +75,12 @@ pub fn extent_at<'a>(
     }
     // Corners that the arrays do not have are none.
     let n = min_usize(count, min_usize(xs.len(), ys.len()));
-    let g = wide(ax, ay, bx, by);
+    let g = from_row(ax, ay, bx, by, row);
     // Most rows miss most segments.
-    if !side::reached(ys, n, g, row) {
+    if !side::reached(ys, n, g) {
         return Extent::Nothing;
     }
-    limit::columns(side::narrowed(xs, ys, n, g, row))
+    limit::columns(side::narrowed(xs, ys, n, g))
 }
 
 // The same for a pen.

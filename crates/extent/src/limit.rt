@@ -1,14 +1,12 @@
 // What the sides of a sweep leave of a row: the least and the greatest column, kept as fractions,
-// so that a side costs two products and no division.
+// so that a side costs two products and no division. Heights count from the row, so that it is row 0.
 use crate::Extent;
 ghost use mathlib.Core.Path.{_≡_};
-ghost use Prim.Native.Nat.{_<_};
 ghost use lib.IntN.{pos, _+ℤ_};
-ghost use Rattle.limits.specs.Sizes.{rasterMax};
 ghost use Rattle.integers.specs.Orders.{_≺_};
 ghost use Rattle.stroke.specs.Extent.{upper, lower, narrow, spanOf};
 ghost use Rattle.extent.specs.Answer.{answered};
-ghost use Rattle.extent.specs.Held.{lastTo, atMost, atLeast, left, flatLeaves, start, Fair, Steady, Bounded};
+ghost use Rattle.extent.specs.Held.{lastTo, atMost, atLeast, left, flatLeaves, start, Fair, Steady};
 
 // num / by, in sixteenths of a pixel. A `by` of 0: no limit yet.
 pub struct Fraction {
@@ -64,23 +62,24 @@ fn greater(f: Fraction, num: i64, by: i64) -> Fraction
     f
 }
 
-// Whether a flat side leaves the row: `at` is the row's place along the normal, c the side's.
-fn leaves(b: i64, c: i64, at: i64) -> bool
-    ensures { λ r. ⌜ r ≡ flatLeaves b c at ⌝ }
+// Whether a flat side leaves the row: it has room there, or none and is kept.
+fn leaves(b: i64, room: i64) -> bool
+    ensures { λ r. ⌜ r ≡ flatLeaves b room ⌝ }
 {
-    if ties::keeps_flat(b) { at <= c } else { at < c }
+    if ties::keeps_flat(b) {
+        0 <= room
+    } else {
+        0 < room
+    }
 }
 
-// One side more, a x + b y <= c, in the given row. Its room is what a * 16i may reach at most.
-pub fn narrow(s: Limits, a: i64, b: i64, c: i64, row: u64) -> Limits
+// One side more, a x + b y <= room: in row 0 its room is what a * 16i may reach at most.
+pub fn narrow(s: Limits, a: i64, b: i64, room: i64) -> Limits
     requires steady { ⌜ Steady s ⌝ }
-    requires side { ⌜ Bounded a b c ⌝ }
-    requires low { ⌜ row < rasterMax ⌝ }
-    ensures answer { λ r. ⌜ left r ≡ narrow (pos row) (record { a = a; b = b; c = c }) (left s) ⌝ }
+    requires side { ⌜ Fair (record { num = room; by = a }) ⌝ }
+    ensures answer { λ r. ⌜ left r ≡ narrow (pos 0) (record { a = a; b = b; c = room }) (left s) ⌝ }
     ensures steady { λ r. ⌜ Steady r ⌝ }
 {
-    let at = b * (16 * (row as i64));
-    let room = c - at;
     let least = s.least;
     let most = s.most;
     if 0 < a {
@@ -98,7 +97,7 @@ pub fn narrow(s: Limits, a: i64, b: i64, c: i64, row: u64) -> Limits
         };
     }
     Limits {
-        some: s.some && leaves(b, c, at),
+        some: s.some && leaves(b, room),
         least: least,
         most: most,
     }

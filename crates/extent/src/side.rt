@@ -20,7 +20,8 @@ ghost use Rattle.stroke.specs.Sides.{moved, furthest, touching, pathSides, side
 ghost use Rattle.stroke.specs.Extent.{narrow, narrowed, reached};
 ghost use Rattle.extent.specs.Held.{left, start, Steady, Normal, Corner, Near, ends, Held};
 
-// The ends A and B of a segment, in sixteenths of a pixel.
+// The ends A and B of a segment, in sixteenths of a pixel. Their heights count from the row that is
+// asked for, which so is row 0: what room a side has in it takes no product with the row.
 pub struct Ends {
     pub ax: i64,
     pub ay: i64,
@@ -37,27 +38,28 @@ fn next(i: usize, n: usize) -> usize
 }
 
 // The edge from the corner P to the corner Q. Its normal is the direction turned right, and its
-// line stands at the end where it lies further out.
-fn edge(s: Limits, g: Ends, row: u64, px: i64, py: i64, qx: i64, qy: i64) -> Limits
+// line stands at the end where it lies further out: at A, or as much further out as B is.
+fn edge(s: Limits, g: Ends, px: i64, py: i64, qx: i64, qy: i64) -> Limits
     requires steady { ⌜ Steady s ⌝ }
-    requires near { ⌜ Near g row ⌝ }
+    requires near { ⌜ Near g ⌝ }
     requires from { ⌜ Corner px py ⌝ }
     requires to { ⌜ Corner qx qy ⌝ }
-    ensures answer { λ r. ⌜ left r ≡ narrow (pos row) (moved (ends g) (edge (pt px py) (pt qx qy))) (left s) ⌝ }
+    ensures answer { λ r. ⌜ left r ≡ narrow (pos 0) (moved (ends g) (edge (pt px py) (pt qx qy))) (left s) ⌝ }
     ensures steady { λ r. ⌜ Steady r ⌝ }
 {
     let a = qy - py;
     let b = px - qx;
-    let out = max(a * g.ax + b * g.ay, a * g.bx + b * g.by);
-    narrow(s, a, b, 8 * (a * px + b * py) + out, row)
+    let at_a = a * (8 * px + g.ax) + b * (8 * py + g.ay);
+    let further = max(a * (g.bx - g.ax) + b * (g.by - g.ay), 0);
+    narrow(s, a, b, at_a + further)
 }
 
 // All edges, counterclockwise from corner 0.
-fn edges<'a>(s: Limits, xs: &'a [i8], ys: &'a [i8], n: usize, g: Ends, row: u64) -> Limits
+fn edges<'a>(s: Limits, xs: &'a [i8], ys: &'a [i8], n: usize, g: Ends) -> Limits
     requires steady { ⌜ Steady s ⌝ }
     requires held { ⌜ Held n (now xs) (now ys) ⌝ }
-    requires near { ⌜ Near g row ⌝ }
-    ensures answer { λ r. ⌜ left r ≡ narrowed (pos row) (map (moved (ends g)) (edges (corners n (now (xs .entry)) (now (ys .entry))))) (left s) ⌝ }
+    requires near { ⌜ Near g ⌝ }
+    ensures answer { λ r. ⌜ left r ≡ narrowed (pos 0) (map (moved (ends g)) (edges (corners n (now (xs .entry)) (now (ys .entry))))) (left s) ⌝ }
     ensures steady { λ r. ⌜ Steady r ⌝ }
 {
     let mut r = s;
@@ -68,7 +70,7 @@ fn edges<'a>(s: Limits, xs: &'a [i8], ys: &'a [i8], n: usize, g: Ends, row: u64)
         let py = wide(ys[i]);
         let qx = wide(xs[k]);
         let qy = wide(ys[k]);
-        r = edge(r, g, row, px, py, qx, qy);
+        r = edge(r, g, px, py, qx, qy);
         i += 1;
     }
     r
@@ -79,7 +81,7 @@ fn furthest<'a>(xs: &'a [i8], ys: &'a [i8], n: usize, a: i64, b: i64) -> i64
     requires held { ⌜ Held n (now xs) (now ys) ⌝ }
     requires normal { ⌜ Normal a b ⌝ }
     ensures answer { λ r. ⌜ r ≡ furthest a b (corners n (now (xs .entry)) (now (ys .entry))) ⌝ }
-    ensures small { λ r. ⌜ Abs r (2 ^ 27) ⌝ }
+    ensures small { λ r. ⌜ Abs r (2 ^ 28) ⌝ }
 {
     let mut m = 0;
     let mut i = n;
@@ -93,33 +95,24 @@ fn furthest<'a>(xs: &'a [i8], ys: &'a [i8], n: usize, a: i64, b: i64) -> i64
 }
 
 // The line with the normal (a, b) through A, moved out to touch the pen.
-fn touch<'a>(
-    s: Limits,
-    xs: &'a [i8],
-    ys: &'a [i8],
-    n: usize,
-    g: Ends,
-    a: i64,
-    b: i64,
-    row: u64,
-) -> Limits
+fn touch<'a>(s: Limits, xs: &'a [i8], ys: &'a [i8], n: usize, g: Ends, a: i64, b: i64) -> Limits
     requires steady { ⌜ Steady s ⌝ }
     requires held { ⌜ Held n (now xs) (now ys) ⌝ }
-    requires near { ⌜ Near g row ⌝ }
+    requires near { ⌜ Near g ⌝ }
     requires normal { ⌜ Normal a b ⌝ }
-    ensures answer { λ r. ⌜ left r ≡ narrow (pos row) (touching (corners n (now (xs .entry)) (now (ys .entry))) (pt (g .ax) (g .ay)) a b) (left s) ⌝ }
+    ensures answer { λ r. ⌜ left r ≡ narrow (pos 0) (touching (corners n (now (xs .entry)) (now (ys .entry))) (pt (g .ax) (g .ay)) a b) (left s) ⌝ }
     ensures steady { λ r. ⌜ Steady r ⌝ }
 {
     let out = furthest(xs, ys, n, a, b);
-    narrow(s, a, b, 8 * out + (a * g.ax + b * g.ay), row)
+    narrow(s, a, b, 8 * out + (a * g.ax + b * g.ay))
 }
 
 // The two lines along the path; a dot has none.
-fn along<'a>(s: Limits, xs: &'a [i8], ys: &'a [i8], n: usize, g: Ends, row: u64) -> Limits
+fn along<'a>(s: Limits, xs: &'a [i8], ys: &'a [i8], n: usize, g: Ends) -> Limits
     requires steady { ⌜ Steady s ⌝ }
     requires held { ⌜ Held n (now xs) (now ys) ⌝ }
-    requires near { ⌜ Near g row ⌝ }
-    ensures answer { λ r. ⌜ left r ≡ narrowed (pos row) (pathSides (corners n (now (xs .entry)) (now (ys .entry))) (ends g)) (left s) ⌝ }
+    requires near { ⌜ Near g ⌝ }
+    ensures answer { λ r. ⌜ left r ≡ narrowed (pos 0) (pathSides (corners n (now (xs .entry)) (now (ys .entry))) (ends g)) (left s) ⌝ }
     ensures steady { λ r. ⌜ Steady r ⌝ }
 {
     if g.ax == g.bx && g.ay == g.by {
@@ -127,19 +120,19 @@ fn along<'a>(s: Limits, xs: &'a [i8], ys: &'a [i8], n: usize, g: Ends, row: u64)
     }
     let u = g.bx - g.ax;
     let v = g.by - g.ay;
-    let right = touch(s, xs, ys, n, g, v, -u, row);
-    touch(right, xs, ys, n, g, -v, u, row)
+    let right = touch(s, xs, ys, n, g, v, -u);
+    touch(right, xs, ys, n, g, -v, u)
 }
 
 // What all sides leave.
-pub fn narrowed<'a>(xs: &'a [i8], ys: &'a [i8], n: usize, g: Ends, row: u64) -> Limits
+pub fn narrowed<'a>(xs: &'a [i8], ys: &'a [i8], n: usize, g: Ends) -> Limits
     requires held { ⌜ Held n (now xs) (now ys) ⌝ }
-    requires near { ⌜ Near g row ⌝ }
-    ensures answer { λ r. ⌜ left r ≡ narrowed (pos row) (sides (corners n (now (xs .entry)) (now (ys .entry))) (ends g)) start ⌝ }
+    requires near { ⌜ Near g ⌝ }
+    ensures answer { λ r. ⌜ left r ≡ narrowed (pos 0) (sides (corners n (now (xs .entry)) (now (ys .entry))) (ends g)) start ⌝ }
     ensures steady { λ r. ⌜ Steady r ⌝ }
 {
-    let s = edges(all(), xs, ys, n, g, row);
-    along(s, xs, ys, n, g, row)
+    let s = edges(all(), xs, ys, n, g);
+    along(s, xs, ys, n, g)
 }
 
 // How far up and down the pen reaches, whatever its corners' x are: corner 0 is the lowest.
@@ -155,12 +148,11 @@ fn reach(ys: &[i8], n: usize) -> i64
 }
 
 // Whether the row is within the segment's reach.
-pub fn reached(ys: &[i8], n: usize, g: Ends, row: u64) -> bool
+pub fn reached(ys: &[i8], n: usize, g: Ends) -> bool
     requires held { do ⌜ n ≤ (← ⟦ys.len()⟧) ⌝ }
-    requires near { ⌜ Near g row ⌝ }
-    ensures { λ r. ⌜ ((xs : List ℤ) → n ≤ length xs → r ≡ reached (corners n xs (now (ys .entry))) (ends g) (pos row)) ⌝ }
+    requires near { ⌜ Near g ⌝ }
+    ensures { λ r. ⌜ ((xs : List ℤ) → n ≤ length xs → r ≡ reached (corners n xs (now (ys .entry))) (ends g) (pos 0)) ⌝ }
 {
     let far = 8 * reach(ys, n);
-    let at = 16 * (row as i64);
-    min(g.ay, g.by) - far <= at && at <= max(g.ay, g.by) + far
+    min(g.ay, g.by) - far <= 0 && 0 <= max(g.ay, g.by) + far
 }

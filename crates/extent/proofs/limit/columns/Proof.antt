@@ -27,7 +27,7 @@ zero = num (pos 0) tt
 over : {f : Fraction} → Fair f → Is w64 (f .num) (bits (f .num)) (2 ^ 40)
 over h = known (h .num-small) tt
 
-by : {f : Fraction} → Fair f → Is w64 (f .by) (bits (f .by)) (2 ^ 19)
+by : {f : Fraction} → Fair f → Is w64 (f .by) (bits (f .by)) (2 ^ 20)
 by h = known (h .by-small) tt
 
 -- a limit's last column, as the code divides

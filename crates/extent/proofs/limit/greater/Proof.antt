@@ -16,13 +16,13 @@ zero = machine.num (pos 0) tt
 num : (s : tie.Start) → Is w64 (s .args .num) (ofZ w64 (s .args .num)) (2 ^ 40)
 num s = known (s .pre .1 .1 .num-small) tt
 
-by : (s : tie.Start) → Is w64 (s .args .by) (ofZ w64 (s .args .by)) (2 ^ 19)
+by : (s : tie.Start) → Is w64 (s .args .by) (ofZ w64 (s .args .by)) (2 ^ 20)
 by s = known (s .pre .1 .1 .by-small) tt
 
 f-num : (s : tie.Start) → Is w64 (s .args .f .num) (ofZ w64 (s .args .f .num)) (2 ^ 40)
 f-num s = known (s .pre .0 .num-small) tt
 
-f-by : (s : tie.Start) → Is w64 (s .args .f .by) (ofZ w64 (s .args .f .by)) (2 ^ 19)
+f-by : (s : tie.Start) → Is w64 (s .args .f .by) (ofZ w64 (s .args .f .by)) (2 ^ 20)
 f-by s = known (s .pre .0 .by-small) tt
 
 -- the places: the start, from the first test; that test, from the second

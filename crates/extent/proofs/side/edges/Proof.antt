@@ -43,10 +43,10 @@ going-on {n} {xs} {ys} {j} {g} {r = r} {i = i} v h t e = let k = v .held in reco
 }
 
 abbrev Inv-loop : tie.InvT-loop
-Inv-loop xs ys n g row r₀ i₀ r i = Going n xs ys (pos row) (ends g) r₀ r i
+Inv-loop xs ys n g r₀ i₀ r i = Going n xs ys (pos 0) (ends g) r₀ r i
 
 abbrev μ-loop : tie.MeasureT-loop
-μ-loop xs ys n g row r₀ i₀ r i = n - i
+μ-loop xs ys n g r₀ i₀ r i = n - i
 
 -- the next corner's place lies in the arrays
 after-below : (i n : ℕ) → i < n → cornerAfter i n < n
@@ -137,7 +137,7 @@ loop-again c =
     let p = placed P in
     let a = start-of p .args in
     let i = looped p .loop in
-    let narrowed-by : Pt → Pt → Left = λ P Q. narrow (pos (a .row)) (moved (ends (a .g)) (edge P Q)) (left (i .r)) in
+    let narrowed-by : Pt → Pt → Left = λ P Q. narrow (pos 0) (moved (ends (a .g)) (edge P Q)) (left (i .r)) in
     let next-place = ap (place (now (a .xs)) (now (a .ys))) (p .next .ensures) in
     let e = ap₂ narrowed-by (ap₂ pt (px P .reads) (py P .reads)) (ap₂ pt (qx Q .reads) (qy Q .reads) ∙ next-place) in
     going-on (i .inv) (p .before .loop-test .taken) (c .edge .ensures .1) (c .edge .ensures .0 ∙ e)

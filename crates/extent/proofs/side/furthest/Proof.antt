@@ -18,7 +18,7 @@ use Rattle.extent.proofs.side.furthest.Statement.{statement}
 use Rattle.extent.proofs.side.furthest.Tie as tie
 
 abbrev Inv-loop : tie.InvT-loop
-Inv-loop xs ys n a b m₀ i₀ m i = (i ≤ n) × Is w64 (furthest (toZ w64 a) (toZ w64 b) (drop i (corners n xs ys))) m (2 ^ 27)
+Inv-loop xs ys n a b m₀ i₀ m i = (i ≤ n) × Is w64 (furthest (toZ w64 a) (toZ w64 b) (drop i (corners n xs ys))) m (2 ^ 28)
 
 abbrev μ-loop : tie.MeasureT-loop
 μ-loop xs ys n a b m₀ i₀ m i = i
@@ -31,10 +31,10 @@ abbrev turn : tie.After-wide2 Inv-loop μ-loop → tie.In-loop Inv-loop μ-loop
 turn c = c .before .before .before .before
 
 -- the normal, as the loop's invariant names it, and the corner that was read
-a : (s : tie.Start Inv-loop μ-loop) → Is w64 (toZ w64 (bits (s .args .a))) (bits (s .args .a)) (2 ^ 19)
+a : (s : tie.Start Inv-loop μ-loop) → Is w64 (toZ w64 (bits (s .args .a))) (bits (s .args .a)) (2 ^ 20)
 a s = let k = known (s .pre .1 .a-small) tt in along (sym (k .reads)) k
 
-b : (s : tie.Start Inv-loop μ-loop) → Is w64 (toZ w64 (bits (s .args .b))) (bits (s .args .b)) (2 ^ 19)
+b : (s : tie.Start Inv-loop μ-loop) → Is w64 (toZ w64 (bits (s .args .b))) (bits (s .args .b)) (2 ^ 20)
 b s = let k = known (s .pre .1 .b-small) tt in along (sym (k .reads)) k
 
 x : (c : tie.After-wide2 Inv-loop μ-loop) → let t = turn c in
@@ -50,7 +50,7 @@ corner-out : (c : tie.After-wide2 Inv-loop μ-loop) → let t = turn c in
     let r = start-of t .args in
     let i = t .before .loop .i - 1 in
     Is w64 (dot (toZ w64 (bits (r .a))) (toZ w64 (bits (r .b))) (place (now (r .xs)) (now (r .ys)) i))
-    (bits (r .a) ⊗ bits (c .before .before .wide .result) ⊕ bits (r .b) ⊗ bits (c .wide2 .result)) (2 ^ 27)
+    (bits (r .a) ⊗ bits (c .before .before .wide .result) ⊕ bits (r .b) ⊗ bits (c .wide2 .result)) (2 ^ 28)
 corner-out c = let s = start-of (turn c) in add (mul (a s) (x c) tt) (mul (b s) (y c) tt) tt
 
 loop-holds : tie.Need-loop-holds Inv-loop μ-loop

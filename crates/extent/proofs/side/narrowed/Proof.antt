@@ -26,7 +26,7 @@ returns : tie.Need-returns
 unfolding sides
 returns c =
     let r = c .before .before .before .args in
-    let j = pos (r .row) in
+    let j = pos 0 in
     let g = ends (r .g) in
     let es = map (moved g) (edges (corners (r .n) (now (r .xs)) (now (r .ys)))) in
     let ps = pathSides (corners (r .n) (now (r .xs)) (now (r .ys))) g in

@@ -14,7 +14,6 @@ use Rattle.integers.proofs.Machine.{Is, known, num, mul, mul-fits, add, add-fit
 use Rattle.plane.specs.Polygon.{reach}
 use Rattle.plane.specs.Point.{corners}
 use Rattle.integers.proofs.Words.{bits, _⊖_, _⊗_, max-is, min-is}
-use Rattle.limits.proofs.Rows.{row-number, row-place}
 use borrow.Author.Needs.{needs}
 use Rattle.extent.proofs.side.reached.Statement.{statement}
 use Rattle.extent.proofs.side.reached.Tie as tie
@@ -33,34 +32,28 @@ far : (c : tie.After-reach) → Is w64 (pos 8 *ℤ c .reach .result) (bits (pos 
 far c = mul (num (pos 8) tt) (known (c .reach .ensures .1) tt) tt
 
 -- the lesser and the greater y of the ends
-low : (c : tie.After-min) → let g = reach-of c .before .args .g in Is w64 (minZ (g .ay) (g .by)) (bits (c .min .result)) (2 ^ 18)
+low : (c : tie.After-min) → let g = reach-of c .before .args .g in Is w64 (minZ (g .ay) (g .by)) (bits (c .min .result)) (2 ^ 19)
 low c = let n = reach-of c .before .pre .1 in min-is (known (n .ay-small) tt) (known (n .by-small) tt) (c .min .ensures)
 
-high : (c : tie.After-max) → let g = reach-at c .before .args .g in Is w64 (maxZ (g .ay) (g .by)) (bits (c .max .result)) (2 ^ 18)
+high : (c : tie.After-max) → let g = reach-at c .before .args .g in Is w64 (maxZ (g .ay) (g .by)) (bits (c .max .result)) (2 ^ 19)
 high c = let n = reach-at c .before .pre .1 in max-is (known (n .ay-small) tt) (known (n .by-small) tt) (c .max .ensures)
 
 -- the first test
 lower : (c : tie.After-min) (xs : List ℤ) → let a = reach-of c .before .args in a .n ≤ length xs →
-    leZ (toZ w64 (bits (c .min .result) ⊖ bits (pos 8) ⊗ bits (reach-of c .reach .result))) (toZ w64 (bits (pos 16) ⊗ a .row)) ≡
-    leZ (minZ (a .g .ay) (a .g .by) -ℤ pos 8 *ℤ reach (corners (a .n) xs (now (a .ys)))) (pos 16 *ℤ pos (a .row))
+    leZ (toZ w64 (bits (c .min .result) ⊖ bits (pos 8) ⊗ bits (reach-of c .reach .result))) (toZ w64 (bits (pos 0))) ≡
+    leZ (minZ (a .g .ay) (a .g .by) -ℤ pos 8 *ℤ reach (corners (a .n) xs (now (a .ys)))) (pos 0)
 lower c xs h =
     let at-reach = reach-of c in
     let s = at-reach .before in
     let g = s .args .g in
-    leZ-at (sub (low c) (far at-reach) tt) (row-place (s .pre .1 .low))
-    ∙ ap (λ (d : ℤ). leZ (minZ (g .ay) (g .by) -ℤ pos 8 *ℤ d) (pos 16 *ℤ pos (s .args .row))) (at-reach .reach .ensures .0 xs h)
+    leZ-at (sub (low c) (far at-reach) tt) (num (pos 0) tt)
+    ∙ ap (λ (d : ℤ). leZ (minZ (g .ay) (g .by) -ℤ pos 8 *ℤ d) (pos 0)) (at-reach .reach .ensures .0 xs h)
 
 reach-requires : tie.Need-reach-requires
 reach-requires c κs = search needs
 
 mul-far : tie.Need-mul-far
 mul-far c = mul-fits (num (pos 8) tt) (known (c .reach .ensures .1) tt) tt
-
-cast-at : tie.Need-cast-at
-cast-at c = search needs
-
-mul-at : tie.Need-mul-at
-mul-at c = mul-fits (num (pos 16) tt) (row-number (c .before .pre .1 .low)) tt
 
 min-requires : tie.Need-min-requires
 min-requires c κs = search needs
@@ -80,8 +73,8 @@ returns c =
     let at-reach = reach-at c in
     let s = at-reach .before in
     let g = s .args .g in
-    leZ-at (row-place (s .pre .1 .low)) (add (high c) (far at-reach) tt)
-    ∙ ap (λ (d : ℤ). leZ (pos 16 *ℤ pos (s .args .row)) (maxZ (g .ay) (g .by) +ℤ pos 8 *ℤ d)) (at-reach .reach .ensures .0 xs h)
+    leZ-at (num (pos 0) tt) (add (high c) (far at-reach) tt)
+    ∙ ap (λ (d : ℤ). leZ (pos 0) (maxZ (g .ay) (g .by) +ℤ pos 8 *ℤ d)) (at-reach .reach .ensures .0 xs h)
     ∙ true-and _ _ (sym (lower (tested c .before) xs h) ∙ tested c .if1 .taken)
 
 returns-2 : tie.Need-returns-2
@@ -93,8 +86,6 @@ reached-spec =
     (tie.spec
     reach-requires
     mul-far
-    cast-at
-    mul-at
     min-requires
     sub-if1
     max-requires
