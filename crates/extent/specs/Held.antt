@@ -12,6 +12,7 @@ use Rattle.plane.specs.Point.{Pt, pt}
 use Rattle.extent.specs.declared.limit.Fraction.{Fraction}
 use Rattle.extent.specs.declared.limit.Limits.{Limits}
 use Rattle.extent.specs.declared.side.Ends.{Ends}
+use Rattle.extent.specs.declared.side.Beside.{Beside}
 use Rattle.ties.specs.Kept.{kept}
 use Rattle.stroke.specs.Sweep.{Seg}
 use Rattle.stroke.specs.Extent.{Limit, free, at, Left}
@@ -47,11 +48,6 @@ pub record Steady (s : Limits) : Type 0 where
   pub least : Fair (s .least)
   pub most : Fair (s .most)
 
--- a normal's numbers: those of an edge, and those of the path's direction
-pub record Normal (a b : ℤ) : Type 0 where
-  pub a-small : Abs a (2 ^ 20)
-  pub b-small : Abs b (2 ^ 20)
-
 -- a corner's numbers, which a byte holds
 pub record Corner (x y : ℤ) : Type 0 where
   pub x-small : Abs x 128
@@ -63,6 +59,15 @@ pub record Near (g : Ends) : Type 0 where
   pub ay-small : Abs (g .ay) (2 ^ 19)
   pub bx-small : Abs (g .bx) (2 ^ 18)
   pub by-small : Abs (g .by) (2 ^ 19)
+
+-- the numbers of the way between its ends, and how far out a pen reaches beside that
+pub record Way (u v : ℤ) : Type 0 where
+  pub u-small : Abs u (2 ^ 19)
+  pub v-small : Abs v (2 ^ 20)
+
+pub record Reaching (r : Beside) : Type 0 where
+  pub right-small : Abs (r .right) (2 ^ 28)
+  pub left-small : Abs (r .left) (2 ^ 28)
 
 abbrev pub ends : Ends → Seg
 ends g = record { from = pt (g .ax) (g .ay); to = pt (g .bx) (g .by) }

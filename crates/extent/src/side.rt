@@ -9,16 +9,16 @@ use integers::wide;
 ghost use mathlib.Core.Path.{_≡_};
 ghost use mathlib.Core.Bool.{cond};
 ghost use mathlib.Core.List.{List, map};
-ghost use Prim.Native.Nat.{_+_, _^_, _≤_};
+ghost use Prim.Native.Nat.{_+_, _≤_};
 ghost use lib.Dec.{ltb};
-ghost use lib.IntN.{ℤ, pos};
+ghost use lib.IntN.{ℤ, pos, negℤ};
 ghost use lib.ListN.{length};
 ghost use Rattle.integers.specs.Bound.{Abs};
 ghost use Rattle.plane.specs.Point.{pt, corners};
 ghost use Rattle.plane.specs.Polygon.{edge, edges, reach};
-ghost use Rattle.stroke.specs.Sides.{moved, furthest, touching, pathSides, sides};
+ghost use Rattle.stroke.specs.Sides.{moved, furthest, pathSides, sides};
 ghost use Rattle.stroke.specs.Extent.{narrow, narrowed, reached};
-ghost use Rattle.extent.specs.Held.{left, start, Steady, Normal, Corner, Near, ends, Held};
+ghost use Rattle.extent.specs.Held.{left, start, Steady, Way, Corner, Near, Reaching, ends, Held};
 
 // The ends A and B of a segment, in sixteenths of a pixel. Their heights count from the row that is
 // asked for, which so is row 0: what room a side has in it takes no product with the row.
@@ -27,6 +27,12 @@ pub struct Ends {
     pub ay: i64,
     pub bx: i64,
     pub by: i64,
+}
+
+// How far out a pen reaches beside a way, to its right and to its left.
+struct Beside {
+    right: i64,
+    left: i64,
 }
 
 // The corner after corner i of n, which after the last is the first.
@@ -76,38 +82,33 @@ fn edges<'a>(s: Limits, xs: &'a [i8], ys: &'a [i8], n: usize, g: Ends) -> Limits
     r
 }
 
-// The greatest a x + b y over the corners, and 0.
-fn furthest<'a>(xs: &'a [i8], ys: &'a [i8], n: usize, a: i64, b: i64) -> i64
+// How far out the pen reaches to the right of the way (u, v) and to its left: the greatest v x - u y
+// and the greatest u y - v x over the corners, and 0. One look at each corner tells both.
+fn furthest<'a>(xs: &'a [i8], ys: &'a [i8], n: usize, u: i64, v: i64) -> Beside
     requires held { ⌜ Held n (now xs) (now ys) ⌝ }
-    requires normal { ⌜ Normal a b ⌝ }
-    ensures answer { λ r. ⌜ r ≡ furthest a b (corners n (now (xs .entry)) (now (ys .entry))) ⌝ }
-    ensures small { λ r. ⌜ Abs r (2 ^ 28) ⌝ }
+    requires way { ⌜ Way u v ⌝ }
+    ensures right { λ r. ⌜ r .right ≡ furthest v (negℤ u) (corners n (now (xs .entry)) (now (ys .entry))) ⌝ }
+    ensures left { λ r. ⌜ r .left ≡ furthest (negℤ v) u (corners n (now (xs .entry)) (now (ys .entry))) ⌝ }
+    ensures small { λ r. ⌜ Reaching r ⌝ }
 {
-    let mut m = 0;
+    let mut most = 0;
+    let mut least = 0;
     let mut i = n;
     while i > 0 {
         i -= 1;
         let x = wide(xs[i]);
         let y = wide(ys[i]);
-        m = max(a * x + b * y, m);
+        let t = v * x - u * y;
+        most = max(t, most);
+        least = min(t, least);
     }
-    m
+    Beside {
+        right: most,
+        left: -least,
+    }
 }
 
-// The line with the normal (a, b) through A, moved out to touch the pen.
-fn touch<'a>(s: Limits, xs: &'a [i8], ys: &'a [i8], n: usize, g: Ends, a: i64, b: i64) -> Limits
-    requires steady { ⌜ Steady s ⌝ }
-    requires held { ⌜ Held n (now xs) (now ys) ⌝ }
-    requires near { ⌜ Near g ⌝ }
-    requires normal { ⌜ Normal a b ⌝ }
-    ensures answer { λ r. ⌜ left r ≡ narrow (pos 0) (touching (corners n (now (xs .entry)) (now (ys .entry))) (pt (g .ax) (g .ay)) a b) (left s) ⌝ }
-    ensures steady { λ r. ⌜ Steady r ⌝ }
-{
-    let out = furthest(xs, ys, n, a, b);
-    narrow(s, a, b, 8 * out + (a * g.ax + b * g.ay))
-}
-
-// The two lines along the path; a dot has none.
+// The two lines along the path, through A and moved out to touch the pen; a dot has none.
 fn along<'a>(s: Limits, xs: &'a [i8], ys: &'a [i8], n: usize, g: Ends) -> Limits
     requires steady { ⌜ Steady s ⌝ }
     requires held { ⌜ Held n (now xs) (now ys) ⌝ }
@@ -120,8 +121,10 @@ fn along<'a>(s: Limits, xs: &'a [i8], ys: &'a [i8], n: usize, g: Ends) -> Limits
     }
     let u = g.bx - g.ax;
     let v = g.by - g.ay;
-    let right = touch(s, xs, ys, n, g, v, -u);
-    touch(right, xs, ys, n, g, -v, u)
+    let out = furthest(xs, ys, n, u, v);
+    let at_a = v * g.ax - u * g.ay;
+    let right = narrow(s, v, -u, 8 * out.right + at_a);
+    narrow(right, -v, u, 8 * out.left - at_a)
 }
 
 // What all sides leave.
