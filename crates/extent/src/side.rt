@@ -60,7 +60,8 @@ fn edge(s: Limits, g: Ends, px: i64, py: i64, qx: i64, qy: i64) -> Limits
     narrow(s, a, b, at_a + further)
 }
 
-// All edges, counterclockwise from corner 0.
+// All edges, counterclockwise from corner 0. The corner Q of one edge is the P of the next, so that
+// each corner is read once.
 fn edges<'a>(s: Limits, xs: &'a [i8], ys: &'a [i8], n: usize, g: Ends) -> Limits
     requires steady { ⌜ Steady s ⌝ }
     requires held { ⌜ Held n (now xs) (now ys) ⌝ }
@@ -68,15 +69,20 @@ fn edges<'a>(s: Limits, xs: &'a [i8], ys: &'a [i8], n: usize, g: Ends) -> Limits
     ensures answer { λ r. ⌜ left r ≡ narrowed (pos 0) (map (moved (ends g)) (edges (corners n (now (xs .entry)) (now (ys .entry))))) (left s) ⌝ }
     ensures steady { λ r. ⌜ Steady r ⌝ }
 {
+    if n == 0 {
+        return s;
+    }
     let mut r = s;
+    let mut px = wide(xs[0]);
+    let mut py = wide(ys[0]);
     let mut i = 0;
     while i < n {
         let k = next(i, n);
-        let px = wide(xs[i]);
-        let py = wide(ys[i]);
         let qx = wide(xs[k]);
         let qy = wide(ys[k]);
         r = edge(r, g, px, py, qx, qy);
+        px = qx;
+        py = qy;
         i += 1;
     }
     r

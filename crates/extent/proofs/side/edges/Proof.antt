@@ -1,5 +1,5 @@
--- Each turn narrows by one edge, so that what the edges still to come leave of the limits stays the same.
-use mathlib.Core.Path.{_≡_, refl, sym, ap, ap₂, _∙_}
+-- Each turn narrows by one edge, so that what the edges still to come leave of the limits stays the same; and it hands on the corner that it read.
+use mathlib.Core.Path.{_≡_, refl, sym, ap, ap₂, subst, _∙_}
 use mathlib.Core.Bool.{Bool, true, false, cond}
 use mathlib.Core.List.{List, map}
 use Prim.Native.Nat.{ℕ, _+_, _-_, _≤_, _<_}
@@ -7,10 +7,10 @@ use native.Mathlib.Omega.{arith}
 use lib.ListN.{getD}
 use lib.Dec.{ltb}
 use lib.IntN.{ℤ, pos}
-use borrow.Author.Tests.{ltb-true}
+use borrow.Author.Tests.{ltb-true, lt-ltb}
 use mir.Syntax.{w64}
 use denote.Ref.{now}
-use Rattle.integers.proofs.Machine.{Is, bound}
+use Rattle.integers.proofs.Machine.{Is, along, bound}
 use Rattle.plane.specs.Point.{Pt, pt, corners}
 use Rattle.plane.specs.Polygon.{edge, edges}
 use Rattle.extent.specs.declared.limit.Limits.{Limits}
@@ -25,28 +25,40 @@ use Rattle.extent.proofs.Round.{leftSince, since-start, since-next, sin
 use Rattle.extent.proofs.side.edges.Statement.{statement}
 use Rattle.extent.proofs.side.edges.Tie as tie
 
--- the limits r, reached from r₀, at the corner i
-record Going (n : ℕ) (xs ys : List ℤ) (j : ℤ) (g : Seg) (r₀ r : Limits) (i : ℕ) : Type 0 where
+-- the corner at which turn i begins: after the last turn corner 0
+abbrev here : ℕ → ℕ → ℕ
+here i n = cond (ltb i n) i 0
+
+here-below : (i n : ℕ) → i < n → here i n ≡ i
+here-below i n h = ap (λ (t : Bool). cond t i 0) (lt-ltb i n h)
+
+-- the limits r, reached from r₀, at the corner i, which is (px, py)
+record Going (n : ℕ) (xs ys : List ℤ) (j : ℤ) (g : Seg) (r₀ r : Limits) (px py i : ℕ) : Type 0 where
   held : Held n xs ys
   within : i ≤ n
   steady : Steady r
+  x : Is w64 (getD xs (here i n) (pos 0)) px 128
+  y : Is w64 (getD ys (here i n) (pos 0)) py 128
   same : narrowed j (map (moved g) (edges (corners n xs ys))) (left r₀) ≡ leftSince n xs ys (held .in-xs) (held .in-ys) j g i (left r)
 
 -- one edge more
-going-on : {n : ℕ} {xs ys : List ℤ} {j : ℤ} {g : Seg} {r₀ r r′ : Limits} {i : ℕ} → Going n xs ys j g r₀ r i → i < n → Steady r′ →
-    left r′ ≡ narrow j (moved g (edge (place xs ys i) (place xs ys (cornerAfter i n)))) (left r) → Going n xs ys j g r₀ r′ (i + 1)
-going-on {n} {xs} {ys} {j} {g} {r = r} {i = i} v h t e = let k = v .held in record {
+going-on : {n : ℕ} {xs ys : List ℤ} {j : ℤ} {g : Seg} {r₀ r r′ : Limits} {px py qx qy i : ℕ} → Going n xs ys j g r₀ r px py i → i < n → Steady r′ →
+    Is w64 (getD xs (cornerAfter i n) (pos 0)) qx 128 → Is w64 (getD ys (cornerAfter i n) (pos 0)) qy 128 →
+    left r′ ≡ narrow j (moved g (edge (place xs ys i) (place xs ys (cornerAfter i n)))) (left r) → Going n xs ys j g r₀ r′ qx qy (i + 1)
+going-on {n} {xs} {ys} {j} {g} {r = r} {i = i} v h t x y e = let k = v .held in record {
   held = k;
   within = omega arith;
   steady = t;
+  x = x;
+  y = y;
   same = v .same ∙ since-next n xs ys (k .in-xs) (k .in-ys) j g (left r) i h ∙ ap (leftSince n xs ys (k .in-xs) (k .in-ys) j g (i + 1)) (sym e);
 }
 
 abbrev Inv-loop : tie.InvT-loop
-Inv-loop xs ys n g r₀ i₀ r i = Going n xs ys (pos 0) (ends g) r₀ r i
+Inv-loop xs ys n g r₀ px₀ py₀ i₀ r px py i = Going n xs ys (pos 0) (ends g) r₀ r px py i
 
 abbrev μ-loop : tie.MeasureT-loop
-μ-loop xs ys n g r₀ i₀ r i = n - i
+μ-loop xs ys n g r₀ px₀ py₀ i₀ r px py i = n - i
 
 -- the next corner's place lies in the arrays
 after-below : (i n : ℕ) → i < n → cornerAfter i n < n
@@ -56,73 +68,96 @@ after-below i n h = go (ltb (i + 1) n) refl
     go true e = ltb-true (i + 1) n e
     go false e = omega arith
 
-next-below : (c : tie.After-next Inv-loop μ-loop) → c .next .result < c .before .before .before .args .n
-next-below c = rw (c .next .ensures) (after-below _ _ (c .before .loop-test .taken))
-
--- ---- the places: the start and the loop, from where the next corner's place is known; that, from where P has been read; and P, from where Q has
-abbrev start-of : tie.After-next Inv-loop μ-loop → tie.Start Inv-loop μ-loop
-start-of c = c .before .before .before
+-- ---- the places: where there are corners, from where the first has been read; the start and the loop, from where the next corner's place is known;
+-- and that, from where the corner has been read
+abbrev some : tie.After-wide2 Inv-loop μ-loop → tie.Else1 Inv-loop μ-loop
+some c = c .before .before .before .before
 
 abbrev looped : tie.After-next Inv-loop μ-loop → tie.At-loop Inv-loop μ-loop
 looped c = c .before .before
 
-abbrev placed : tie.After-wide2 Inv-loop μ-loop → tie.After-next Inv-loop μ-loop
+abbrev start-of : tie.After-next Inv-loop μ-loop → tie.Start Inv-loop μ-loop
+start-of c = some (looped c .before) .before
+
+abbrev placed : tie.After-wide4 Inv-loop μ-loop → tie.After-next Inv-loop μ-loop
 placed c = c .before .before .before .before
 
-abbrev read-P : tie.After-wide4 Inv-loop μ-loop → tie.After-wide2 Inv-loop μ-loop
-read-P c = c .before .before .before .before
+next-below : (c : tie.After-next Inv-loop μ-loop) → c .next .result < start-of c .args .n
+next-below c = subst (λ (k : ℕ). k < start-of c .args .n) (sym (c .next .ensures)) (after-below _ _ (c .before .loop-test .taken))
 
--- the corners P and Q that were read
-px : (c : tie.After-wide2 Inv-loop μ-loop) → let p = placed c in
-    Is w64 (getD (now (start-of p .args .xs)) (looped p .loop .i) (pos 0)) (bits (c .before .before .wide .result)) 128
-px c = let at-x = c .before .before in coordinate (record { sfits = at-x .before .wide-arg .given }) (at-x .wide .ensures)
+-- the first corner, and the corner Q, that were read
+first-x : (c : tie.After-wide2 Inv-loop μ-loop) → Is w64 (getD (now (some c .before .args .xs)) 0 (pos 0)) (bits (c .before .before .wide .result)) 128
+first-x c = let at-x = c .before .before in coordinate (record { sfits = at-x .before .wide-arg .given }) (at-x .wide .ensures)
 
-py : (c : tie.After-wide2 Inv-loop μ-loop) → let p = placed c in Is w64 (getD (now (start-of p .args .ys)) (looped p .loop .i) (pos 0)) (bits (c .wide2 .result)) 128
-py c = coordinate (record { sfits = c .before .wide-arg2 .given }) (c .wide2 .ensures)
+first-y : (c : tie.After-wide2 Inv-loop μ-loop) → Is w64 (getD (now (some c .before .args .ys)) 0 (pos 0)) (bits (c .wide2 .result)) 128
+first-y c = coordinate (record { sfits = c .before .wide-arg2 .given }) (c .wide2 .ensures)
 
-qx : (c : tie.After-wide4 Inv-loop μ-loop) → let p = placed (read-P c) in
-    Is w64 (getD (now (start-of p .args .xs)) (p .next .result) (pos 0)) (bits (c .before .before .wide3 .result)) 128
-qx c = let at-x = c .before .before in coordinate (record { sfits = at-x .before .wide-arg3 .given }) (at-x .wide3 .ensures)
+qx : (c : tie.After-wide4 Inv-loop μ-loop) → let p = placed c in
+    Is w64 (getD (now (start-of p .args .xs)) (cornerAfter (looped p .loop .i) (start-of p .args .n)) (pos 0)) (bits (c .before .before .wide3 .result)) 128
+qx c =
+    let at-x = c .before .before in
+    let p = placed c in
+    along (ap (λ (k : ℕ). getD (now (start-of p .args .xs)) k (pos 0)) (p .next .ensures)) (coordinate (record { sfits = at-x .before .wide-arg3 .given }) (at-x .wide3 .ensures))
 
-qy : (c : tie.After-wide4 Inv-loop μ-loop) → let p = placed (read-P c) in Is w64 (getD (now (start-of p .args .ys)) (p .next .result) (pos 0)) (bits (c .wide4 .result)) 128
-qy c = coordinate (record { sfits = c .before .wide-arg4 .given }) (c .wide4 .ensures)
+qy : (c : tie.After-wide4 Inv-loop μ-loop) → let p = placed c in
+    Is w64 (getD (now (start-of p .args .ys)) (cornerAfter (looped p .loop .i) (start-of p .args .n)) (pos 0)) (bits (c .wide4 .result)) 128
+qy c =
+    let p = placed c in
+    along (ap (λ (k : ℕ). getD (now (start-of p .args .ys)) k (pos 0)) (p .next .ensures)) (coordinate (record { sfits = c .before .wide-arg4 .given }) (c .wide4 .ensures))
 
 -- ---- the needs
-loop-holds : tie.Need-loop-holds Inv-loop μ-loop
-loop-holds c = let h = c .pre .1 .0 in record { held = h; within = omega arith; steady = c .pre .0; same = since-start _ _ _ (h .in-xs) (h .in-ys) _ _ _ }
-
-next-requires : tie.Need-next-requires Inv-loop μ-loop
-next-requires c κs = omega arith
+returns : tie.Need-returns Inv-loop μ-loop
+returns c =
+    let s = c .before in
+    let h = s .pre .1 .0 in
+    (sym (since-start _ _ _ (h .in-xs) (h .in-ys) _ _ _ ∙ since-end _ _ _ (h .in-xs) (h .in-ys) _ _ _ 0 (omega (arith, c .if1 .taken))), s .pre .0)
 
 shared-slice-copy-out-wide : tie.Need-shared-slice-copy-out-wide Inv-loop μ-loop
-shared-slice-copy-out-wide c = omega (arith, looped c .loop .inv .held .in-xs)
+shared-slice-copy-out-wide c = omega (arith, c .before .pre .1 .0 .in-xs, c .if1 .left)
 
 wide-requires : tie.Need-wide-requires Inv-loop μ-loop
 wide-requires c κs = tt
 
 shared-slice-copy-out-wide-2 : tie.Need-shared-slice-copy-out-wide-2 Inv-loop μ-loop
-shared-slice-copy-out-wide-2 c = omega (arith, looped (c .before .before) .loop .inv .held .in-ys)
+shared-slice-copy-out-wide-2 c = let e = c .before .before in omega (arith, e .before .pre .1 .0 .in-ys, e .if1 .left)
 
 wide-requires-2 : tie.Need-wide-requires-2 Inv-loop μ-loop
 wide-requires-2 c κs = tt
 
+loop-holds : tie.Need-loop-holds Inv-loop μ-loop
+loop-holds c =
+    let s = some c .before in
+    let h = s .pre .1 .0 in
+    let first = sym (here-below 0 (s .args .n) (omega (arith, some c .if1 .left))) in
+    record {
+      held = h;
+      within = omega arith;
+      steady = s .pre .0;
+      x = along (ap (λ (k : ℕ). getD (now (s .args .xs)) k (pos 0)) first) (first-x c);
+      y = along (ap (λ (k : ℕ). getD (now (s .args .ys)) k (pos 0)) first) (first-y c);
+      same = since-start _ _ _ (h .in-xs) (h .in-ys) _ _ _;
+    }
+
+next-requires : tie.Need-next-requires Inv-loop μ-loop
+next-requires c κs = omega arith
+
 shared-slice-copy-out-wide-3 : tie.Need-shared-slice-copy-out-wide-3 Inv-loop μ-loop
-shared-slice-copy-out-wide-3 c = let p = placed c in omega (arith, looped p .loop .inv .held .in-xs, next-below p)
+shared-slice-copy-out-wide-3 c = omega (arith, looped c .loop .inv .held .in-xs, next-below c)
 
 wide-requires-3 : tie.Need-wide-requires-3 Inv-loop μ-loop
 wide-requires-3 c κs = tt
 
 shared-slice-copy-out-wide-4 : tie.Need-shared-slice-copy-out-wide-4 Inv-loop μ-loop
-shared-slice-copy-out-wide-4 c = let p = placed (c .before .before) in omega (arith, looped p .loop .inv .held .in-ys, next-below p)
+shared-slice-copy-out-wide-4 c = let p = c .before .before in omega (arith, looped p .loop .inv .held .in-ys, next-below p)
 
 wide-requires-4 : tie.Need-wide-requires-4 Inv-loop μ-loop
 wide-requires-4 c κs = tt
 
 edge-requires : tie.Need-edge-requires Inv-loop μ-loop
 edge-requires c κs =
-    let P = read-P c in
-    let p = placed P in
-    (looped p .loop .inv .steady, (start-of p .pre .1 .1, (record { x-small = bound (px P); y-small = bound (py P) }, record { x-small = bound (qx c); y-small = bound (qy c) })))
+    let p = placed c in
+    let v = looped p .loop .inv in
+    (v .steady, (start-of p .pre .1 .1, (record { x-small = bound (v .x); y-small = bound (v .y) }, record { x-small = bound (qx c); y-small = bound (qy c) })))
 
 add-i : tie.Need-add-i Inv-loop μ-loop
 add-i c = omega arith
@@ -133,17 +168,17 @@ loop-less c = omega arith
 loop-again : tie.Need-loop-again Inv-loop μ-loop
 loop-again c =
     let Q = c .before in
-    let P = read-P Q in
-    let p = placed P in
+    let p = placed Q in
     let a = start-of p .args in
-    let i = looped p .loop in
-    let narrowed-by : Pt → Pt → Left = λ P Q. narrow (pos 0) (moved (ends (a .g)) (edge P Q)) (left (i .r)) in
-    let next-place = ap (place (now (a .xs)) (now (a .ys))) (p .next .ensures) in
-    let e = ap₂ narrowed-by (ap₂ pt (px P .reads) (py P .reads)) (ap₂ pt (qx Q .reads) (qy Q .reads) ∙ next-place) in
-    going-on (i .inv) (p .before .loop-test .taken) (c .edge .ensures .1) (c .edge .ensures .0 ∙ e)
+    let l = looped p .loop in
+    let below = p .before .loop-test .taken in
+    let narrowed-by : Pt → Pt → Left = λ P Q. narrow (pos 0) (moved (ends (a .g)) (edge P Q)) (left (l .r)) in
+    let at-P = ap₂ pt (l .inv .x .reads) (l .inv .y .reads) ∙ ap (place (now (a .xs)) (now (a .ys))) (here-below (l .i) (a .n) below) in
+    let e = ap₂ narrowed-by at-P (ap₂ pt (qx Q .reads) (qy Q .reads)) in
+    going-on (l .inv) below (c .edge .ensures .1) (qx Q) (qy Q) (c .edge .ensures .0 ∙ e)
 
-returns : tie.Need-returns Inv-loop μ-loop
-returns c =
+returns-2 : tie.Need-returns-2 Inv-loop μ-loop
+returns-2 c =
     let v = c .before .loop .inv in
     (sym (v .same ∙ since-end _ _ _ (v .held .in-xs) (v .held .in-ys) _ _ _ _ (omega arith)), v .steady)
 
@@ -153,12 +188,13 @@ edges-spec =
     (tie.spec
     Inv-loop
     μ-loop
-    loop-holds
-    next-requires
+    returns
     shared-slice-copy-out-wide
     wide-requires
     shared-slice-copy-out-wide-2
     wide-requires-2
+    loop-holds
+    next-requires
     shared-slice-copy-out-wide-3
     wide-requires-3
     shared-slice-copy-out-wide-4
@@ -167,4 +203,4 @@ edges-spec =
     add-i
     loop-less
     loop-again
-    returns)
+    returns-2)
