@@ -2,8 +2,8 @@
 -- says of the two functions.
 use Prim.Native.Nat.{ℕ, _*_, _/_}
 use mathlib.Core.Path.{_≡_}
-use mathlib.Core.Bool.{cond}
-use mathlib.Core.List.{List}
+use mathlib.Core.Bool.{false, cond}
+use mathlib.Core.List.{List, [], _∷_}
 use lib.Dec.{leb}
 use lib.ListN.{length}
 use lib.IntN.{ℤ, pos}
@@ -41,9 +41,13 @@ callWith cs c v path b = cond (c .packed) (packedWith cs c v path b) (runsWith c
 abbrev pub builtCorners : Call → List Pt
 builtCorners c = penCorners (built (c .setting) .pen)
 
--- two pens blacken the same columns of the row that is asked for
-abbrev pub SameRow : List Pt → List Pt → Call → List ℤ → Type 0
-SameRow cs ds c path = (x : ℕ) → blackAt cs (pathPoints path) (pos (c .row)) (pos x) ≡ blackAt ds (pathPoints path) (pos (c .row)) (pos x)
+-- nothing in the row that is asked for is black
+abbrev pub Clear : List Pt → Call → List ℤ → Type 0
+Clear cs c path = (x : ℕ) → blackAt cs (pathPoints path) (pos (c .row)) (pos x) ≡ false
+
+-- a path of one point
+abbrev pub dot : List ℤ
+dot = pos 0 ∷ pos 0 ∷ []
 
 -- for a path of coordinates
 abbrev pub entriesVerdict : Call → List ℤ → Verdict

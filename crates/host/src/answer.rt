@@ -1,5 +1,5 @@
 // What a row call answers for a setting that is taken and a path of bytes.
-use crate::pens::pen_for;
+use crate::miss::misses;
 use checks::Answer;
 use limits::Verdict;
 use setting::Setting;
@@ -11,7 +11,8 @@ ghost use Rattle.limits.specs.declared.Verdict.the-variants.{Passed};
 ghost use Rattle.wire.specs.Read.{entriesOf};
 ghost use Rattle.setting.specs.Setting.{Taken};
 ghost use Rattle.outcome.specs.Fit.{Fit};
-ghost use Rattle.host.specs.Call.{written, runsWith, packedWith, callWith, entriesVerdict, entriesCall, bytesCall};
+ghost use mathlib.Core.List.{[]};
+ghost use Rattle.host.specs.Call.{written, runsWith, packedWith, callWith, dot, entriesVerdict, entriesCall, bytesCall};
 ghost use Rattle.plane.specs.Point.{corners};
 
 // How many entries a short path has at most, and how many bytes.
@@ -120,8 +121,19 @@ fn of_corners<'a>(
     entries_runs(call, xs, ys, count, path, bytes)
 }
 
-// The checks come first, and the pen is built only where they pass. It is built here, and not below,
-// so that its work and the list of runs do not stand on the stack at once.
+// A row with nothing black, whatever the path: a pen without corners draws none, of a dot as of any
+// other path.
+fn missed(call: Call, bytes: &mut [u8]) -> u64
+    requires { ⌜ entriesVerdict call dot ≡ Passed ⌝ }
+    ensures { λ r. ⌜ record { answer = r; bytes = now (bytes .exit) } ≡ callWith [] call Passed dot (now (bytes .entry)) ⌝ }
+{
+    let none = [0i8; 1];
+    let dot = [0i32, 0];
+    of_corners(call, &none, &none, 0, &dot, bytes)
+}
+
+// The checks come first, and the pen is built only where they pass and the path reaches the row. It is
+// built here, and not below, so that its work and the list of runs do not stand on the stack at once.
 fn of_entries(call: Call, path: &[i32], bytes: &mut [u8]) -> u64
     requires { ⌜ Taken (call .setting) ⌝ }
     ensures { λ r. ⌜ record { answer = r; bytes = now (bytes .exit) } ≡ entriesCall call (now (path .entry)) (now (bytes .entry)) ⌝ }
@@ -130,8 +142,19 @@ fn of_entries(call: Call, path: &[i32], bytes: &mut [u8]) -> u64
     let Verdict::Passed = checked else {
         return outcome::refused(checked);
     };
-    let pen = pen_for(call, path);
-    of_corners(call, &pen.x, &pen.y, pen.count, path, bytes)
+    if misses(call, path) {
+        return missed(call, bytes);
+    }
+    let s = call.setting;
+    let built = pen::build(s.w, s.p, s.q);
+    of_corners(
+        call,
+        &built.pen.x,
+        &built.pen.y,
+        built.pen.count,
+        path,
+        bytes,
+    )
 }
 
 // The path's coordinates go into the given array.

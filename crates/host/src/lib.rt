@@ -1,13 +1,13 @@
 // The row answer and the packed row for a host program in C: numbers and byte slices only.
 //
 // The way of the data: the path's coordinates from bytes (wire), the checks, the setting's pen where
-// the path reaches the row (pens), the row's answer (row, packed), and the answer in one number
+// the path reaches the row (miss), the row's answer (row, packed), and the answer in one number
 // (outcome); answer leads through these.
 ghost use mathlib.Core.Path.{_≡_};
 ghost use Rattle.host.specs.Host.{hostRow, hostPackedRow};
 
 mod answer;
-mod pens;
+mod miss;
 
 use crate::answer::Call;
 use limits::Verdict;

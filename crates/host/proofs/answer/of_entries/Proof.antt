@@ -1,15 +1,19 @@
--- What the checks refuse is refused; otherwise the pen gives the row of the one that is built.
+-- What the checks refuse is refused; a row that the path misses is clear; otherwise the pen is the one that is built.
 use Prim.Native.Nat.{ℕ}
-use mathlib.Core.Path.{sym, ap, subst, _∙_}
+use mathlib.Core.Path.{_≡_, sym, ap, subst, _∙_}
+use mathlib.Core.List.{[]}
 use borrow.Author.Needs.{needs}
 use Rattle.limits.specs.Sizes.{entriesMax, Drawable}
+use Rattle.limits.specs.declared.Verdict.{Verdict}
+use Rattle.limits.specs.declared.Verdict.the-variants.{Passed}
+use Rattle.pen.specs.declared.Built.{Built}
 use Rattle.pen.specs.Answer.{penCorners}
 use Rattle.checks.proofs.Verdicts.{verdict-passed}
 use Rattle.outcome.proofs.Fits.{small-code}
 use Rattle.outcome.proofs.Verdicts.{Small, small-verdict}
-use Rattle.host.specs.Call.{builtCorners, entriesVerdict}
+use Rattle.host.specs.Call.{callWith, builtCorners, dot, entriesVerdict}
 use Rattle.host.proofs.Outcomes.{call-refused}
-use Rattle.host.proofs.SameRows.{call-same}
+use Rattle.host.proofs.Missed.{call-clear, dot-passes}
 use Rattle.host.proofs.answer.of_entries.Statement.{statement}
 use Rattle.host.proofs.answer.of_entries.Tie as tie
 
@@ -17,16 +21,16 @@ use Rattle.host.proofs.answer.of_entries.Tie as tie
 abbrev start : tie.After-check → tie.Start
 start c = c .before .before
 
--- where the parts of the pen have been lent one after the other
-abbrev chosen : tie.After-of-corners-arg5 → tie.After-pen-for
-chosen c = let lent = c .before .before .before in lent .before .before .before
-
 -- where they are passed
+passed : (c : tie.After-enum-told) → let a = start (c .before .before) .args in entriesVerdict (a .call) (a .path .now) ≡ Passed
+passed c = sym (c .before .before .check .ensures) ∙ c .enum-told .given .1
+
 drawable : (c : tie.After-enum-told) → let a = start (c .before .before) .args in Drawable (a .path .now) (a .call .columns) (a .call .row)
-drawable c =
-    let k = c .before .before in
-    let a = start k .args in
-    verdict-passed (a .path .now) (a .call .columns) (a .call .rows) (a .call .row) (sym (k .check .ensures) ∙ c .enum-told .given .1)
+drawable c = let a = start (c .before .before) .args in verdict-passed (a .path .now) (a .call .columns) (a .call .rows) (a .call .row) (passed c)
+
+-- where the parts of the pen have been lent one after the other
+abbrev built : tie.After-of-corners-arg5 → tie.After-build
+built c = let lent = c .before .before .before in lent .before .before .before
 
 check-requires : tie.Need-check-requires
 check-requires c κs = search needs
@@ -50,22 +54,45 @@ returns c =
     (small-code (c .refused .ensures) f (subst (Small entriesMax) (sym e) (small-verdict (a .path .now) (a .call .columns) (a .call .rows) (a .call .row))))
     ∙ call-refused (builtCorners (a .call)) (a .call) (entriesVerdict (a .call) (a .path .now)) (a .path .now) (a .bytes .now) (sym e ∙ f)
 
-pen-for-requires : tie.Need-pen-for-requires
-pen-for-requires c κs = (start (c .before .before) .pre, drawable c)
+misses-requires : tie.Need-misses-requires
+misses-requires c κs = (start (c .before .before) .pre, drawable c)
 
-of-corners-requires : tie.Need-of-corners-requires
-of-corners-requires c κs = search needs
+missed-requires : tie.Need-missed-requires
+missed-requires c κs =
+    let k = c .before .before .before in
+    let a = start (k .before .before) .args in
+    dot-passes (a .path .now) (a .call .columns) (a .call .rows) (a .call .row) (passed k)
 
 same-length : tie.Need-same-length
 same-length c = search needs
 
 returns-2 : tie.Need-returns-2
 returns-2 c =
+    let missed = c .before .before in
+    let asked = missed .before .before .before in
+    let k = asked .before in
+    let a = start (k .before .before) .args in
+    missed .missed .ensures
+    ∙ ap (λ (v : Verdict). callWith [] (a .call) v dot (a .bytes .now)) (sym (passed k))
+    ∙ call-clear (builtCorners (a .call)) (a .call) (entriesVerdict (a .call) (a .path .now)) (a .path .now) dot (a .bytes .now) (asked .misses .ensures (missed .before .before .if1 .taken))
+
+build-requires : tie.Need-build-requires
+build-requires c κs = search needs
+
+of-corners-requires : tie.Need-of-corners-requires
+of-corners-requires c κs = search needs
+
+same-length-2 : tie.Need-same-length-2
+same-length-2 c = search needs
+
+returns-3 : tie.Need-returns-3
+returns-3 c =
     let drawn = c .before .before in
-    let p = chosen (drawn .before) in
-    let a = start (p .before .before .before) .args in
+    let b = built (drawn .before) in
+    let asked = b .before .before .before in
+    let a = start (asked .before .before .before) .args in
     drawn .of-corners .ensures
-    ∙ call-same (penCorners (p .pen-for .result)) (builtCorners (a .call)) (a .call) (entriesVerdict (a .call) (a .path .now)) (a .path .now) (a .bytes .now) (p .pen-for .ensures)
+    ∙ ap (λ (r : Built). callWith (penCorners (r .pen)) (a .call) (entriesVerdict (a .call) (a .path .now)) (a .path .now) (a .bytes .now)) (b .build .ensures)
 
 pub of-entries-spec : {M : Type 1} → statement M
 of-entries-spec =
@@ -76,7 +103,11 @@ of-entries-spec =
     enum-told-2
     refused-requires
     returns
-    pen-for-requires
-    of-corners-requires
+    misses-requires
+    missed-requires
     same-length
-    returns-2)
+    returns-2
+    build-requires
+    of-corners-requires
+    same-length-2
+    returns-3)

@@ -13,9 +13,9 @@ use Rattle.setting.proofs.Limits.{box-high}
 use Rattle.ties.specs.Below.{below}
 use Rattle.reach.specs.Reach.{leastY, greatestY}
 use Rattle.reach.proofs.Heights.{least-small, greatest-small}
-use Rattle.host.proofs.SameRows.{missed-under, missed-over}
-use Rattle.host.proofs.pens.misses.Statement.{statement}
-use Rattle.host.proofs.pens.misses.Tie as tie
+use Rattle.host.proofs.Missed.{missed-under, missed-over}
+use Rattle.host.proofs.miss.misses.Statement.{statement}
+use Rattle.host.proofs.miss.misses.Tie as tie
 
 -- ---- half the pen's height, and the height of the row
 half-small : (s : tie.Start) → (s .args .call .setting .w + 8) / 16 ≤ 32
