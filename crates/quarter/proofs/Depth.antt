@@ -1,5 +1,5 @@
 -- The edges after the corner are at most 8: each goes further to the right than the next, and together they go no further than the box, of at most 32.
-use Prim.Native.Nat.{ℕ, zero, suc, _+_, _*_, _≤_, _<_}
+use Prim.Native.Nat.{ℕ, zero, suc, _+_, _≤_, _<_}
 use mathlib.Core.Path.{_≡_, refl, subst, sym}
 use mathlib.Core.Bool.{Bool, true, false}
 use mathlib.Core.List.{List, [], _∷_}
@@ -8,7 +8,7 @@ use lib.Dec.{eqb}
 use native.Mathlib.Nat.{lt-of-lt-of-le}
 use native.Mathlib.Omega.{arith}
 use Rattle.setting.specs.declared.Setting.{Setting}
-use Rattle.setting.specs.Setting.{Taken, Dx}
+use Rattle.setting.specs.Setting.{Taken}
 use Rattle.setting.proofs.Limits.{box-wide}
 use Rattle.quarter.specs.declared.Edge.{Edge}
 use Rattle.quarter.specs.Cutting.{Corner, State, Step, ended, put, on, size, amount, shortR, cutEdge, cutBy, cut, act, stepAt, step}

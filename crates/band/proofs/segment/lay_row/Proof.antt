@@ -9,9 +9,6 @@ use borrow.Author.Needs.{needs}
 use Rattle.band.proofs.segment.lay_row.Statement.{statement}
 use Rattle.band.proofs.segment.lay_row.Tie as tie
 use Rattle.band.proofs.segment.lay_row.Reads as reads
-use Rattle.band.proofs.segment.lay_row.Lts as lts
-use Rattle.bits.proofs.lay_span_from.Reads as lay-span-from-reads
-use Rattle.flanks.proofs.count_to.Reads as count-to-reads
 
 -- src/segment.rt:28:27
 sub-at : tie.Need-sub-at

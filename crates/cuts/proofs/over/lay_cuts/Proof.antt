@@ -8,7 +8,7 @@ use lib.ListN.{length, getD, take, drop, drop-of-length-le}
 use lib.Seq.{take-all}
 use Rattle.plane.specs.Point.{corners}
 use Rattle.limits.specs.Sizes.{rasterMax}
-use Rattle.bits.specs.Bits.{packed, laidOver, blackened}
+use Rattle.bits.specs.Bits.{blackened}
 use Rattle.bits.proofs.Blackened.{blackened-packed}
 use Rattle.stroke.specs.Sweep.{segments, pathPoints}
 use Rattle.cuts.specs.declared.cut.Cut.{Cut}
