@@ -1,11 +1,12 @@
 -- Where the line of a moved edge stands; the edges of a pen one after the other, and what each leaves of a row; then the two sides along the path.
-use Prim.Native.Nat.{ℕ, suc, _+_, _≤_, _<_}
+use Prim.Native.Nat.{ℕ, suc, _+_, _-_, _≤_, _<_}
 use native.Mathlib.Omega.{arith}
 use native.Mathlib.Numerals.{add-one}
 use mathlib.Core.Path.{_≡_, refl, sym, ap, ap₂, _∙_}
 use mathlib.Core.Logic.{inl, inr}
-use mathlib.Core.Bool.{true, false}
+use mathlib.Core.Bool.{true, false, cond}
 use mathlib.Core.List.{List, [], _∷_, _++_, map}
+use lib.Dec.{ltb}
 use lib.ListN.{length, drop, drop-of-length-le}
 use lib.IntN.{ℤ, pos, negℤ, _+ℤ_, _-ℤ_, _*ℤ_}
 use Rattle.integers.specs.Orders.{_≼_, _≺_}
@@ -20,6 +21,7 @@ use Rattle.plane.proofs.Round.{head, rest, rest-cons, edges-rest, cornerAfter, 
 use Rattle.stroke.specs.Sweep.{Seg}
 use Rattle.stroke.specs.Sides.{moved, touching, pathSides}
 use Rattle.stroke.specs.Extent.{Left, narrow, narrowed}
+use Rattle.extent.proofs.AnyOrder.{narrow-past}
 
 -- ---- the line of an edge, at A and as much further out as B is
 -- the further one of two numbers, from the first
@@ -55,6 +57,10 @@ moved-at a b px py ax ay bx by =
     to-B = ring 6 _ (simp reify (omega arith))
 
 -- ---- the edges
+-- the corner at place i of n, which after the last is the first
+abbrev pub cornerAt : ℕ → ℕ → ℕ
+cornerAt i n = cond (ltb i n) i 0
+
 module _ (n : ℕ) (xs ys : List ℤ) (h : n ≤ length xs) (k : n ≤ length ys) where
   -- what is left after the edges from place i on
   pub leftSince : ℤ → Seg → ℕ → Left → Left
@@ -75,6 +81,15 @@ module _ (n : ℕ) (xs ys : List ℤ) (h : n ≤ length xs) (k : n ≤ length ys
         ∙ ap m (rest-cons F (place xs ys i) cs)
         ∙ ap (λ (Q : Pt). m (edge (place xs ys i) Q ∷ rest F cs)) (next n xs ys h k i l)
         ∙ ap (λ (k : ℕ). leftSince j g k (narrow j (moved g (edge (place xs ys i) (place xs ys (cornerAfter i n)))) s)) (sym (add-one i))
+
+    -- and so from place i back to the one before it: its edge may come last as well as first
+    pub since-back : (i : ℕ) → 0 < i → i ≤ n →
+        narrow j (moved g (edge (place xs ys (i - 1)) (place xs ys (cornerAt i n)))) (leftSince j g i s) ≡ leftSince j g (i - 1) s
+    unfolding leftSince
+    since-back i p l =
+        let back : i - 1 + 1 ≡ i = omega arith in
+        let e : ℕ → Side = λ k. moved g (edge (place xs ys (i - 1)) (place xs ys (cornerAt k n))) in
+        narrow-past j (e i) _ s ∙ sym (since-next (i - 1) (omega arith) ∙ ap (λ (k : ℕ). leftSince j g k (narrow j (e k) s)) back)
 
     pub since-end : (i : ℕ) → n ≤ i → leftSince j g i s ≡ s
     unfolding leftSince rest narrowed

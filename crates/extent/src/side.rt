@@ -7,10 +7,8 @@ use integers::max;
 use integers::min;
 use integers::wide;
 ghost use mathlib.Core.Path.{_≡_};
-ghost use mathlib.Core.Bool.{cond};
 ghost use mathlib.Core.List.{List, map};
-ghost use Prim.Native.Nat.{_+_, _≤_};
-ghost use lib.Dec.{ltb};
+ghost use Prim.Native.Nat.{_≤_};
 ghost use lib.IntN.{ℤ, pos, negℤ};
 ghost use lib.ListN.{length};
 ghost use Rattle.integers.specs.Bound.{Abs};
@@ -35,14 +33,6 @@ struct Beside {
     left: i64,
 }
 
-// The corner after corner i of n, which after the last is the first.
-fn next(i: usize, n: usize) -> usize
-    requires { ⌜ i + 1 ≤ n ⌝ }
-    ensures { λ r. ⌜ r ≡ cond (ltb (i + 1) n) (i + 1) 0 ⌝ }
-{
-    if i + 1 < n { i + 1 } else { 0 }
-}
-
 // The edge from the corner P to the corner Q. Its normal is the direction turned right, and its
 // line stands at the end where it lies further out: at A, or as much further out as B is.
 fn edge(s: Limits, g: Ends, px: i64, py: i64, qx: i64, qy: i64) -> Limits
@@ -60,8 +50,8 @@ fn edge(s: Limits, g: Ends, px: i64, py: i64, qx: i64, qy: i64) -> Limits
     narrow(s, a, b, at_a + further)
 }
 
-// All edges, counterclockwise from corner 0. The corner Q of one edge is the P of the next, so that
-// each corner is read once.
+// All edges, from the last back to the first, since their order is no matter: the corner P of one is
+// the Q of the one before it, so that each corner is read once, and i is all that counts.
 fn edges<'a>(s: Limits, xs: &'a [i8], ys: &'a [i8], n: usize, g: Ends) -> Limits
     requires steady { ⌜ Steady s ⌝ }
     requires held { ⌜ Held n (now xs) (now ys) ⌝ }
@@ -73,17 +63,16 @@ fn edges<'a>(s: Limits, xs: &'a [i8], ys: &'a [i8], n: usize, g: Ends) -> Limits
         return s;
     }
     let mut r = s;
-    let mut px = wide(xs[0]);
-    let mut py = wide(ys[0]);
-    let mut i = 0;
-    while i < n {
-        let k = next(i, n);
-        let qx = wide(xs[k]);
-        let qy = wide(ys[k]);
+    let mut qx = wide(xs[0]);
+    let mut qy = wide(ys[0]);
+    let mut i = n;
+    while i > 0 {
+        i -= 1;
+        let px = wide(xs[i]);
+        let py = wide(ys[i]);
         r = edge(r, g, px, py, qx, qy);
-        px = qx;
-        py = qy;
-        i += 1;
+        qx = px;
+        qy = py;
     }
     r
 }
