@@ -1,4 +1,4 @@
--- Each bit of a film, by its place: the place in the file, the row there, the bit of the packed row, and the stroke that makes it black.
+-- Each bit of a band, by its place: the place in the bytes, the row there, the bit of the packed row, and the stroke that makes it black.
 use Prim.Native.Nat.{ℕ, zero, suc, _+_, _-_, _*_, _/_, _%_, _^_, _≤_, _<_}
 use native.Mathlib.Omega.{arith}
 use mathlib.Core.Path.{_≡_, refl, sym, ap, ap₂, _∙_, subst}
@@ -8,7 +8,7 @@ use mathlib.Core.List.{List, [], _∷_, _++_}
 use borrow.Author.Tests.{ltb-true, ltb-false, lt-ltb}
 use lib.Dec.{ltb}
 use lib.ListN.{length, getD, take, drop}
-use lib.Seq.{take-at, drop-at, getD-append-add}
+use lib.Seq.{take-at, drop-at}
 use lib.IntN.{pos}
 use Rattle.integers.proofs.Tests.{clash}
 use Rattle.pen.specs.Polygon.{pen}
@@ -20,16 +20,14 @@ use Rattle.stroke.proofs.Path.{black-path}
 use Rattle.bits.specs.Bits.{packed, packedLength}
 use Rattle.bits.proofs.Tests.{one-of, first-of, second-of, bit-set}
 use Rattle.bits.proofs.Bytes.{packed-length, packed-bit, packed-small}
-use Rattle.text.specs.Decimal.{decimal}
-use Rattle.text.proofs.Theorems.{decimal-reads}
-use Rattle.pbm.specs.Pbm.{header, topFirst}
+use Rattle.pbm.specs.Pbm.{topFirst}
 use Rattle.pbm.proofs.Theorems.{top-first}
 use Rattle.drawing.specs.Strokes.{Drawing, pathOf}
-use Rattle.drawing.specs.Film.{rowOf, film, filmPut}
-use Rattle.drawing.specs.Theorems.{RowWidth, settingOf, DrawableFilm, StrokeBlack, BitBlack, FilmRow, FilmBits, FilmBit}
-use Rattle.drawing.proofs.Put.{film-long}
+use Rattle.drawing.specs.Film.{rowOf, bandOf, bandPut}
+use Rattle.drawing.specs.Theorems.{RowWidth, settingOf, DrawableFilm, StrokeBlack, BitBlack, FilmRow, BandBits, BandBit}
+use Rattle.drawing.proofs.Put.{band-long}
 use Rattle.drawing.proofs.Packed.{anyBelow, row-packed}
-use Rattle.drawing.proofs.Drawable.{film-taken, film-gave}
+use Rattle.drawing.proofs.Drawable.{band-gave, band-taken}
 
 -- ---- bytes
 -- every number of the list is a byte, and so is what is read past its end
@@ -40,29 +38,6 @@ small-append : (a b : List ℕ) → Small a → Small b → Small (a ++ b)
 small-append [] b p q n = q n
 small-append (x ∷ a) b p q zero = p 0
 small-append (x ∷ a) b p q (suc n) = small-append a b (λ m. p (suc m)) q n
-
-small-one : (c : ℕ) → c < 256 → Small (c ∷ [])
-small-one c h zero = h
-small-one c h (suc n) = omega arith
-
-small-digits : (l : List ℕ) → ((i : ℕ) → i < length l → (48 ≤ getD l i 0) × (getD l i 0 ≤ 57)) → Small l
-small-digits [] h n = omega arith
-small-digits (c ∷ l) h zero = omega (arith, h 0 (omega arith))
-small-digits (c ∷ l) h (suc n) = small-digits l (λ i k. h (suc i) (omega arith)) n
-
-small-decimal : (n : ℕ) → Small (decimal n)
-small-decimal n = small-digits (decimal n) (decimal-reads n .digits)
-
-small-letters : Small (80 ∷ 52 ∷ 10 ∷ [])
-small-letters = small-append (80 ∷ []) (52 ∷ 10 ∷ []) (small-one 80 (omega arith)) (small-append (52 ∷ []) (10 ∷ []) (small-one 52 (omega arith)) (small-one 10 (omega arith)))
-
-small-header : (columns rows : ℕ) → Small (header columns rows)
-small-header columns rows =
-    let first : List ℕ = (80 ∷ 52 ∷ 10 ∷ []) ++ decimal columns in
-    let second : List ℕ = first ++ (32 ∷ []) in
-    let p = small-append (80 ∷ 52 ∷ 10 ∷ []) (decimal columns) small-letters (small-decimal columns) in
-    let q = small-append first (32 ∷ []) p (small-one 32 (omega arith)) in
-    small-append (second ++ decimal rows) (10 ∷ []) (small-append second (decimal rows) q (small-decimal rows)) (small-one 10 (omega arith))
 
 small-rows : (n : ℕ) (row : ℕ → List ℕ) → ((j : ℕ) → j < n → Small (row j)) → Small (topFirst n row)
 unfolding topFirst
@@ -109,23 +84,6 @@ module _ (d : Drawing) (columns rows : ℕ) (s : DrawableFilm d columns rows) wh
           ↔ BlackPath (pen (settingOf d k)) (pathPoints (pathOf (d .starts) (d .entries) k)) (centre (pos i) (pos j))
       by k l = black-path (pen (settingOf d k)) _ _ (pen-is-pen (settingOf d k) (s .holds k l .taken)) (pathPoints (pathOf (d .starts) (d .entries) k)) (pos i) (pos j)
 
-  -- the row's bytes stand where TopFirst says, behind the header
-  row-long : (j : ℕ) → j < rows → length (rowOf d columns rows (packedLength columns) j) ≡ packedLength columns
-  row-long j h = ap length (row-is j h) ∙ packed-length (black j) columns
-
-  film-byte : (j k : ℕ) → j < rows → k < packedLength columns →
-      getD (film d columns rows) (length (header columns rows) + (rows - 1 - j) * packedLength columns + k) 0 ≡ getD (packed (black j) columns) k 0
-  film-byte j k h l =
-      let w = packedLength columns in
-      let p : length (header columns rows) + (rows - 1 - j) * w + k ≡ length (header columns rows) + ((rows - 1 - j) * w + k) = omega arith in
-      rw p (getD-append-add (header columns rows) (topFirst rows (rowOf d columns rows w)) ((rows - 1 - j) * w + k) 0)
-      ∙ top-first rows w (rowOf d columns rows w) row-long .byte j k h l
-      ∙ ap (λ (b : List ℕ). getD b k 0) (row-is j h)
-
-  film-small : (n : ℕ) → getD (film d columns rows) n 0 < 256
-  film-small = small-append (header columns rows) (topFirst rows (rowOf d columns rows (packedLength columns))) (small-header columns rows)
-      (small-rows rows (rowOf d columns rows (packedLength columns)) (λ j h n. rw (row-is j h) (packed-small (black j) columns n)))
-
   -- the bit of column i, wherever the row's bytes stand
   bit-black : (bytes : List ℕ) (at i j : ℕ) → getD bytes (at + i / 8) 0 ≡ getD (packed (black j) columns) (i / 8) 0 → BitBlack d columns bytes at i j
   bit-black bytes at i j h =
@@ -144,33 +102,48 @@ module _ (d : Drawing) (columns rows : ℕ) (s : DrawableFilm d columns rows) wh
       let at : 0 + i / 8 ≡ i / 8 = omega arith in
       bit-black (rowOf d columns rows (packedLength columns) j) 0 i j (ap₂ (λ (l : List ℕ) (n : ℕ). getD l n 0) (row-is j h) at)
 
-  film-bits : FilmBits d columns rows (packedLength columns) (film d columns rows)
-  film-bits = record {
-    size = film-long d columns rows;
-    small = λ n h. film-small n;
-    head = take-at (header columns rows) (topFirst rows (rowOf d columns rows (packedLength columns))) (length (header columns rows)) refl;
-    bit = λ i j h l. bit-black (film d columns rows) _ i j (film-byte j (i / 8) l (omega arith));
-  }
+  -- some of its rows: their bytes stand where TopFirst says
+  module _ (first n : ℕ) (inside : first + n ≤ rows) where
+    abbrev here : ℕ → List ℕ
+    here j = rowOf d columns rows (packedLength columns) (first + j)
+
+    here-is : (j : ℕ) → j < n → here j ≡ packed (black (first + j)) columns
+    here-is j h = row-is (first + j) (omega arith)
+
+    band-byte : (j k : ℕ) → j < n → k < packedLength columns →
+        getD (bandOf d columns rows first n) ((n - 1 - j) * packedLength columns + k) 0 ≡ getD (packed (black (first + j)) columns) k 0
+    band-byte j k h l =
+        top-first n (packedLength columns) here (λ i m. ap length (here-is i m) ∙ packed-length (black (first + i)) columns) .byte j k h l
+        ∙ ap (λ (b : List ℕ). getD b k 0) (here-is j h)
+
+    band-bits : BandBits d columns first n (packedLength columns) (bandOf d columns rows first n)
+    band-bits = record {
+      size = band-long d columns rows first n;
+      small = λ m h. small-rows n here (λ j l k. rw (here-is j l) (packed-small (black (first + j)) columns k)) m;
+      bit = λ i j h l. bit-black (bandOf d columns rows first n) ((n - 1 - j) * packedLength columns) i (first + j) (band-byte j (i / 8) l (omega arith));
+    }
 
 -- the least number of bytes that hold the columns is the definition's
 width-is : {columns width : ℕ} → RowWidth columns width → packedLength columns ≡ width
 width-is w = omega (arith, w .enough, w .least)
 
 pub film-row : FilmRow
-film-row d columns rows width b s i j h l =
-    subst (λ (w : ℕ). BitBlack d columns (rowOf d columns rows w j) 0 i j) (width-is (s .wide)) (row-bit d columns rows (film-taken d columns rows width b s) i j l)
+film-row d columns rows first n width b s i j h l =
+    let drawable = band-taken d columns rows first n width b s .drawable in
+    subst (λ (w : ℕ). BitBlack d columns (rowOf d columns rows w j) 0 i j) (width-is (s .wide)) (row-bit d columns rows drawable i j l)
 
 -- ---- the buffer at exit
-pub film-bit : FilmBit
-film-bit d columns rows width b s =
-    let g = film-gave d columns rows width b s in
-    let r = filmPut d columns rows b in
-    let f = film d columns rows in
-    let n = width-is (s .wide) in
-    let bits = film-bits d columns rows (film-taken d columns rows width b s) in
+pub band-bit : BandBit
+band-bit d columns rows first n width b s =
+    let g = band-gave d columns rows first n width b s in
+    let r = bandPut d columns rows first n b in
+    let f = bandOf d columns rows first n in
+    let same = width-is (s .wide) in
+    let taken = band-taken d columns rows first n width b s in
+    let bits = band-bits d columns rows (taken .drawable) first n (taken .inside) in
     let front : f ≡ take (r .answer .count) (r .list) = sym (ap₂ (λ (k : ℕ) (l : List ℕ). take k l) (g .count) (g .left) ∙ take-at f (drop (length f) b) (length f) refl) in
     record {
-      film = subst (FilmBits d columns rows width) front (subst (λ (w : ℕ). FilmBits d columns rows w f) n bits);
-      count = g .count ∙ film-long d columns rows ∙ ap (λ (w : ℕ). length (header columns rows) + rows * w) n;
+      band = subst (BandBits d columns first n width) front (subst (λ (w : ℕ). BandBits d columns first n w f) same bits);
+      count = g .count ∙ band-long d columns rows first n ∙ ap (λ (w : ℕ). n * w) same;
       rest = ap₂ (λ (k : ℕ) (l : List ℕ). drop k l) (g .count) (g .left) ∙ drop-at f (drop (length f) b) (length f) refl ∙ ap (λ (k : ℕ). drop k b) (sym (g .count));
     }

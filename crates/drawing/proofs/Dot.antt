@@ -1,7 +1,7 @@
--- The film of the drawing with one dot is document 01's whole file.
-use Prim.Native.Nat.{ℕ, zero, suc, _<_}
-use native.Mathlib.Omega.{arith}
-use mathlib.Core.Path.{_≡_, refl, ap, _∙_}
+-- The film of the drawing with one dot is document 01's whole file, and its rows are one band.
+use Prim.Native.Nat.{ℕ, _+_}
+use native.Mathlib.Nat.{zero-add}
+use mathlib.Core.Path.{_≡_, refl, ap, ap₂, _∙_}
 use mathlib.Core.List.{List, [], _∷_, _++_}
 use lib.IntN.{pos}
 use Rattle.setting.specs.Setting.{taken, Dx, Dy}
@@ -21,13 +21,13 @@ use Rattle.limits.specs.declared.Verdict.the-variants.{Passed}
 use Rattle.stroke.specs.Sweep.{pathPoints}
 use Rattle.bits.specs.Bits.{bitsFrom, bytesFrom, packed}
 use Rattle.text.specs.Decimal.{lastDigits}
-use Rattle.pbm.specs.Pbm.{header, topFirst, file}
+use Rattle.pbm.specs.Pbm.{header, topFirst}
 use Rattle.drawing.specs.Settings.{tabledFrom}
 use Rattle.drawing.specs.Strokes.{pathOf, firstFrom, filmVerdict}
 use Rattle.drawing.specs.Film.{rowOf}
 use Rattle.drawing.specs.Theorems.{settingOf}
-use Rattle.drawing.specs.Cases.{dotSettings, dotPath, dotBytes, dotDrawing, DotFilm}
-use Rattle.drawing.proofs.Made.{table-made}
+use Rattle.drawing.specs.Cases.{dotPath, dotHeader, dotRows, dotDrawing, DotFilm, DotBand}
+use Rattle.drawing.proofs.Rows.{same-rows}
 use Rattle.drawing.proofs.Drawable.{drawable-film}
 use Rattle.drawing.proofs.Packed.{anyBelow, row-packed}
 
@@ -36,22 +36,27 @@ pub dot-taken : filmVerdict dotDrawing 5 3 ≡ Passed
 unfolding tabledFrom defined checked taken looked pathOf firstFrom coordinateFrom inRange
 dot-taken = refl
 
-same-rows : (f g : ℕ → List ℕ) (n : ℕ) → ((j : ℕ) → j < n → f j ≡ g j) → topFirst n f ≡ topFirst n g
-unfolding topFirst
-same-rows f g zero h = refl
-same-rows f g (suc n) h = let l : n < suc n = omega arith in rw (h n l, same-rows f g n (λ j m. h j (omega arith)))
-
 -- its rows are those of the pixels that are black by the rules
 abbrev rows : ℕ → List ℕ
 rows j = packed (λ x. anyBelow (λ k. blackAt (pen (settingOf dotDrawing k)) (pathPoints (pathOf (0 ∷ 2 ∷ []) dotPath k)) (pos j) (pos x)) 1) 5
 
-bytes : file 5 3 rows ≡ dotBytes
+bytes : topFirst 3 rows ≡ dotRows
 unfolding
     tabledFrom defined checked pathOf taken Dx Dy norm lower tried bisect nearRoot amount retained corners quarter upAndBack onceEach pen chain edges
-    furthest sides kept inRange narrowed extent pathPoints bitsFrom bytesFrom lastDigits topFirst anyBelow
+    furthest sides kept inRange narrowed extent pathPoints bitsFrom bytesFrom topFirst anyBelow
 bytes = refl
 
+-- the header is that of its sizes
+pub dot-header : header 5 3 ≡ dotHeader
+unfolding lastDigits
+dot-header = refl
+
+-- any three rows that are its rows
+three : (f : ℕ → List ℕ) → ((j : ℕ) → f j ≡ rowOf dotDrawing 5 3 1 j) → topFirst 3 f ≡ dotRows
+three f e = same-rows f rows 3 (λ j h. e j ∙ row-packed dotDrawing 5 3 (drawable-film dotDrawing 5 3 dot-taken) j h) ∙ bytes
+
 pub dot-film : DotFilm
-dot-film =
-    let s = drawable-film dotDrawing 5 3 (table-made dotSettings .reachable) dot-taken in
-    ap (λ (l : List ℕ). header 5 3 ++ l) (same-rows (rowOf dotDrawing 5 3 1) rows 3 (λ j h. row-packed dotDrawing 5 3 s j h)) ∙ bytes
+dot-film = ap₂ _++_ dot-header (three (rowOf dotDrawing 5 3 1) (λ j. refl))
+
+pub dot-band : DotBand
+dot-band = three (λ j. rowOf dotDrawing 5 3 1 (0 + j)) (λ j. ap (rowOf dotDrawing 5 3 1) (zero-add j))

@@ -1,23 +1,29 @@
--- What is proved of tables, strokes and films.
---   Over       bytes laid over others
---   Rows       the rows and the file, one part more at a time
+-- What is proved of settings, strokes and bands.
+--   Rows       rows one under the other, and a row one stroke more at a time
 --   Defined    the table, one setting more at a time
 --   Made       what the table holds
+--   Held       the checks without a table
 --   Taken      the strokes, one more at a time
---   Put        the file's length, and what is put into a buffer
---   Told       which stroke is refused, and what is answered then
+--   Put        the band's length, and its rows
+--   Told       which stroke is refused
 --   Drawable   what an answer 0 says of the strokes
 --   Packed     rows laid over each other
---   Bits       each bit of the film, in the buffer at exit
+--   Layers     a band, one stroke more at a time
+--   Refusals   what is answered of a band
+--   Bits       each bit of the band, in the buffer at exit
+--   Bands      the film by its bands
 --   Dot        document 01's whole file
-pub mod Over
 pub mod Rows
 pub mod Defined
 pub mod Made
+pub mod Held
 pub mod Taken
 pub mod Put
 pub mod Told
 pub mod Drawable
 pub mod Packed
+pub mod Layers
+pub mod Refusals
 pub mod Bits
+pub mod Bands
 pub mod Dot

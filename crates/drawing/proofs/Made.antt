@@ -7,10 +7,11 @@ use mathlib.Core.Bool.{Bool, true, false}
 use mathlib.Core.List.{List}
 use lib.Dec.{eqb}
 use lib.ListN.{getD, replicate}
-use borrow.Author.Tests.{eqb-true, eqb-false}
+use borrow.Author.Tests.{eqb-true, eqb-false, eq-eqb, ne-eqb}
 use Rattle.integers.proofs.Tests.{clash}
 use Rattle.limits.specs.Sizes.{apertureMin, places}
-use Rattle.limits.proofs.Verdicts.{not-passed}
+use Rattle.limits.specs.declared.Verdict.the-variants.{Passed, Refused}
+use Rattle.limits.proofs.Verdicts.{not-passed, NotZero}
 use Rattle.limits.proofs.Exactly.{Says, passes, refuses}
 use Rattle.setting.specs.declared.Setting.{Setting}
 use Rattle.setting.specs.Setting.{taken}
@@ -28,30 +29,29 @@ use Rattle.aperture.proofs.Numbers.{number-iff}
 use Rattle.aperture.proofs.Theorems.{defined-parts, others-kept}
 use Rattle.aperture.proofs.Delivered.{defined-gives, defining-keeps}
 use Rattle.aperture.proofs.Refusals.{define-refuses}
-use Rattle.drawing.specs.declared.Tabled.{Tabled}
-use Rattle.drawing.specs.Settings.{settingAt, settingCount, tabledFrom, tableOf}
-use Rattle.drawing.specs.Theorems.{MadeTable, TableMade}
+use Rattle.drawing.specs.Settings.{settingAt, settingCount, Tabled, tabledFrom, tableOf, tabledVerdict}
+use Rattle.drawing.specs.Theorems.{GoodSetting, FirstBadSetting, MadeTable, TableMade, SettingTold, good, bad, SettingsTold}
 use Rattle.drawing.proofs.Defined.{none-left, next-defined, next-refused}
 
 -- the first i settings of the list stand in the table, and no later aperture is in use
-record Begun (l : List ℕ) (i : ℕ) (t : Table) : Type 0 where
-  reachable : Reachable t
-  holds : (m : ℕ) → m < i → Holds t (10 + m) (settingAt l m)
-  free : (m : ℕ) → i ≤ m → isNumber (10 + m) ≡ true → placeOf t (10 + m) .used ≡ false
+pub record Begun (l : List ℕ) (i : ℕ) (t : Table) : Type 0 where
+  pub reachable : Reachable t
+  pub holds : (m : ℕ) → m < i → Holds t (10 + m) (settingAt l m)
+  pub free : (m : ℕ) → i ≤ m → isNumber (10 + m) ≡ true → placeOf t (10 + m) .used ≡ false
 
 -- how it ended: with all n settings, or at one that is refused
-data Ended (l : List ℕ) (n : ℕ) (r : Tabled) : Type 0 where
+pub data Ended (l : List ℕ) (n : ℕ) (r : Tabled) : Type 0 where
   whole : r .refusal ≡ 0 → Begun l n (r .table) → Ended l n r
   broken : (i : ℕ) (t : Table) → i < n → Begun l i t → ¬ (defined t (10 + i) (settingAt l i) .refusal ≡ 0) →
       r ≡ record { refusal = defined t (10 + i) (settingAt l i) .refusal; place = i; table = empty } → Ended l n r
 
-none-free : (k i : ℕ) → getD (replicate k vacant) i vacant .used ≡ false
+pub none-free : (k i : ℕ) → getD (replicate k vacant) i vacant .used ≡ false
 none-free zero i = refl
 none-free (suc k) zero = refl
 none-free (suc k) (suc i) = none-free k i
 
 module _ (l : List ℕ) where
-  begin : Begun l 0 empty
+  pub begin : Begun l 0 empty
   begin = record { reachable = starts; holds = λ m h. absurd (omega arith); free = λ m h k. none-free places (10 + m - apertureMin) }
 
   -- one setting more
@@ -59,7 +59,7 @@ module _ (l : List ℕ) where
     abbrev next : Table
     next = defined t (10 + i) (settingAt l i) .table
 
-    more : defined t (10 + i) (settingAt l i) .refusal ≡ 0 → Begun l (suc i) next
+    pub more : defined t (10 + i) (settingAt l i) .refusal ≡ 0 → Begun l (suc i) next
     more e = record { reachable = defines (10 + i) (settingAt l i) (b .reachable); holds = there; free = later }
       where
         there : (m : ℕ) → m < suc i → Holds next (10 + m) (settingAt l m)
@@ -102,6 +102,9 @@ setting-good σ e = go (setting-says σ)
     go (passes q h) = h
     go (refuses place q h) = not-passed (sym q ∙ ap checkedVerdict (sym (accepted σ e)))
 
+held-good : (l : List ℕ) (i : ℕ) {t : Table} → Holds t (10 + i) (settingAt l i) → GoodSetting l i
+held-good l i h = record { number = number-good (10 + i) (h .number); limits = setting-good (settingAt l i) (taken-iff (settingAt l i) .1 (h .taken)) }
+
 -- an aperture that is not in use is never refused with 8
 refused-with : (l : List ℕ) (i : ℕ) (t : Table) → Begun l i t → ¬ (defined t (10 + i) (settingAt l i) .refusal ≡ 0) →
     let n = defined t (10 + i) (settingAt l i) .refusal in
@@ -117,22 +120,48 @@ refused-with l i t b h = elim (define-refuses t (10 + i) (settingAt l i) _ .0 re
   ]
 ]
 
+-- how the whole list ends
+pub table-ended : (l : List ℕ) → Ended l (settingCount l) (tableOf l)
+table-ended l = ended l (settingCount l) 0 (settingCount l) empty (omega arith) (begin l)
+
+-- setting i, the first that is refused
+first-bad : (l : List ℕ) (i : ℕ) (t : Table) → i < settingCount l → Begun l i t → ¬ (defined t (10 + i) (settingAt l i) .refusal ≡ 0) →
+    FirstBadSetting l (defined t (10 + i) (settingAt l i) .refusal) i
+first-bad l i t h b n = record { one = h; earlier = λ m k. held-good l m (b .holds m k); exactly = refused-with l i t b n }
+
 pub table-made : TableMade
-table-made l = go (ended l (settingCount l) 0 (settingCount l) empty (omega arith) (begin l))
+table-made l = go (table-ended l)
   where
     made : (i : ℕ) (t : Table) → i < settingCount l → Begun l i t → ¬ (defined t (10 + i) (settingAt l i) .refusal ≡ 0) →
         MadeTable l (record { refusal = defined t (10 + i) (settingAt l i) .refusal; place = i; table = empty })
-    made i t h b n = record {
-      reachable = starts;
-      holds = λ z. absurd (n z);
-      refused = λ z. record {
-        one = h;
-        earlier = λ m k. let s = b .holds m k in (number-good (10 + m) (s .number), setting-good (settingAt l m) (taken-iff (settingAt l m) .1 (s .taken)));
-        exactly = refused-with l i t b n;
-      };
-      none = λ z. refl;
-    }
+    made i t h b n = record { reachable = starts; holds = λ z. absurd (n z); refused = λ z. first-bad l i t h b n; none = λ z. refl }
 
     go : Ended l (settingCount l) (tableOf l) → MadeTable l (tableOf l)
     go (whole e b) = record { reachable = b .reachable; holds = λ z. b .holds; refused = λ h. absurd (h e); none = λ h. absurd (h e) }
     go (broken i t h b n q) = subst (MadeTable l) (sym q) (made i t h b n)
+
+-- ---- what is refused of it
+pub tabled-passed : (r : Tabled) → r .refusal ≡ 0 → tabledVerdict r ≡ Passed
+tabled-passed r e = rw (tabledVerdict, eq-eqb (r .refusal) 0 e)
+
+pub tabled-refused : (r : Tabled) → ¬ (r .refusal ≡ 0) → tabledVerdict r ≡ Refused (r .refusal) (r .place)
+tabled-refused r e = rw (tabledVerdict, ne-eqb (r .refusal) 0 e)
+
+pub settings-told : SettingsTold
+settings-told l = go (eqb (tableOf l .refusal) 0) refl
+  where
+    go : (x : Bool) → eqb (tableOf l .refusal) 0 ≡ x → SettingTold l (tabledVerdict (tableOf l))
+    go true q =
+        let e = eqb-true (tableOf l .refusal) 0 q in
+        subst (SettingTold l) (sym (tabled-passed (tableOf l) e)) (good (λ i h. held-good l i (table-made l .holds e i h)))
+    go false q =
+        let e = eqb-false (tableOf l .refusal) 0 q in
+        subst (SettingTold l) (sym (tabled-refused (tableOf l) e)) (bad (tableOf l .refusal) (tableOf l .place) (table-made l .refused e))
+
+-- a refusal of the settings is never 0
+pub settings-not-zero : (l : List ℕ) → NotZero (tabledVerdict (tableOf l))
+settings-not-zero l = go (eqb (tableOf l .refusal) 0) refl
+  where
+    go : (x : Bool) → eqb (tableOf l .refusal) 0 ≡ x → NotZero (tabledVerdict (tableOf l))
+    go true q = subst NotZero (sym (tabled-passed (tableOf l) (eqb-true (tableOf l .refusal) 0 q))) tt
+    go false q = let e = eqb-false (tableOf l .refusal) 0 q in subst NotZero (sym (tabled-refused (tableOf l) e)) (omega (arith, e))

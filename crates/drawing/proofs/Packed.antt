@@ -23,7 +23,7 @@ use Rattle.bits.proofs.Over.{over-packed}
 use Rattle.packed.specs.Packed.{packResult, packedCall}
 use Rattle.packed.proofs.Stored.{packed-call-is}
 use Rattle.aperture.specs.Reachable.{Holds}
-use Rattle.drawing.specs.Strokes.{Drawing, pathOf}
+use Rattle.drawing.specs.Strokes.{Drawing, tableIn, pathOf}
 use Rattle.drawing.specs.Film.{added, rowUpTo, rowOf}
 use Rattle.drawing.specs.Theorems.{settingOf, DrawableFilm}
 
@@ -39,15 +39,18 @@ filled cs p columns rows j e =
     let k : length zeros ≤ n = omega arith in
     rw (e, fits, packResult) (ap (λ (r : List ℕ). packed (λ x. blackAt cs (pathPoints p) (pos j) (pos x)) columns ++ r) (drop-of-length-le zeros k) ∙ append-nil _)
 
+-- the row call of an aperture that holds a setting leaves the packed row of that setting's pen
+pub stroke-row : {t : Table} {n : ℕ} {σ : Setting} → Holds t n σ → (p : List ℤ) (columns rows j : ℕ) → verdict p columns rows j ≡ Passed →
+    packedCall t n p columns rows j (replicate (packedLength columns) 0) .list ≡ packed (λ x. blackAt (pen σ) (pathPoints p) (pos j) (pos x)) columns
+stroke-row {σ = σ} h p columns rows j v =
+    ap (λ (r : Result ℕ). r .list) (packed-call-is h p columns rows j (replicate (packedLength columns) 0)) ∙ filled (pen σ) p columns rows j v
+
 over-stroke : {t : Table} {n : ℕ} {σ : Setting} → Holds t n σ → (p : List ℤ) (columns rows j : ℕ) → verdict p columns rows j ≡ Passed → (f : ℕ → Bool) →
     added t n p columns rows j (packed f columns) ≡ packed (λ x. f x || blackAt (pen σ) (pathPoints p) (pos j) (pos x)) columns
 over-stroke {t} {n} {σ} h p columns rows j v f =
     let black : ℕ → Bool = λ x. blackAt (pen σ) (pathPoints p) (pos j) (pos x) in
     let part : ℕ → List ℕ = λ m. packedCall t n p columns rows j (replicate m 0) .list in
-    let zeros : List ℕ = replicate (packedLength columns) 0 in
-    let one : part (packedLength columns) ≡ packed black columns =
-    ap (λ (r : Result ℕ). r .list) (packed-call-is h p columns rows j zeros) ∙ filled (pen σ) p columns rows j v in
-    ap (λ (m : ℕ). laidOver (packed f columns) (part m)) (packed-length f columns) ∙ ap (laidOver (packed f columns)) one ∙ over-packed f black columns
+    ap (λ (m : ℕ). laidOver (packed f columns) (part m)) (packed-length f columns) ∙ ap (laidOver (packed f columns)) (stroke-row h p columns rows j v) ∙ over-packed f black columns
 
 -- some number below n passes the test
 unfoldable pub anyBelow : (ℕ → Bool) → ℕ → Bool
@@ -67,5 +70,5 @@ row-packed d columns rows s j r = go (length (d .apertures)) (λ k h. h)
     go (suc n) h =
         let l : n < suc n = omega arith in
         let path = pathOf (d .starts) (d .entries) n in
-        ap (added (d .table) (getD (d .apertures) n 0) path columns rows j) (go n (λ k m. h k (omega arith)))
+        ap (added (tableIn d) (getD (d .apertures) n 0) path columns rows j) (go n (λ k m. h k (omega arith)))
         ∙ over-stroke (s .holds n (h n l)) path columns rows j (s .passes n j (h n l) r) _

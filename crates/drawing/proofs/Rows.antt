@@ -1,15 +1,17 @@
--- A row of a film and the whole file, one part more at a time.
-use Prim.Native.Nat.{ℕ, zero, suc, _+_, _*_, _-_, _≤_}
+-- A row of a film, one stroke more at a time; and rows one under the other.
+use Prim.Native.Nat.{ℕ, zero, suc, _+_, _*_, _-_, _<_}
 use native.Mathlib.Numerals.{add-one}
-use native.Mathlib.Nat.{suc-mul}
+use native.Mathlib.Nat.{zero-mul, suc-mul}
 use native.Mathlib.Omega.{arith}
-use mathlib.Core.Path.{_≡_, refl, sym, ap, _∙_}
-use mathlib.Core.List.{List, [], _∷_, _++_, append-assoc, append-nil}
-use lib.ListN.{length, getD, take, drop, replicate, length-append, length-drop, drop-of-length-le}
-use lib.Seq.{take-all, take-at, take-nil, drop-nil, length-take-le}
+use mathlib.Core.Path.{_≡_, refl, sym, ap, ap₂, _∙_}
+use mathlib.Core.List.{List, [], _∷_, _++_, append-assoc}
+use lib.ListN.{length, getD, take, drop, replicate, replicate-append-replicate}
+use lib.Seq.{take-at, drop-at, take-nil, drop-nil}
 use lib.IntN.{ℤ}
+use Rattle.bits.specs.Bits.{laidOver}
+use Rattle.band.specs.Theorems.{rowsOver}
 use Rattle.pbm.specs.Pbm.{topFirst}
-use Rattle.drawing.specs.Strokes.{Drawing, pathOf}
+use Rattle.drawing.specs.Strokes.{Drawing, tableIn, pathOf}
 use Rattle.drawing.specs.Film.{added, rowUpTo}
 
 -- a part of a list, taken first or dropped first
@@ -25,35 +27,42 @@ unfolding rowUpTo
 row-none d columns rows j room = refl
 
 pub row-more : (d : Drawing) (columns rows j room k : ℕ) →
-    added (d .table) (getD (d .apertures) k 0) (pathOf (d .starts) (d .entries) k) columns rows j (rowUpTo d columns rows j room k) ≡ rowUpTo d columns rows j room (k + 1)
+    added (tableIn d) (getD (d .apertures) k 0) (pathOf (d .starts) (d .entries) k) columns rows j (rowUpTo d columns rows j room k) ≡ rowUpTo d columns rows j room (k + 1)
 unfolding rowUpTo
 row-more d columns rows j room k = ap (rowUpTo d columns rows j room) (sym (add-one k))
 
--- a row less is left
-pub turn : (row w : ℕ) → 1 ≤ row → row * w ≡ (row - 1) * w + w
-turn zero w h = absurd (omega arith)
-turn (suc r) w h = let e : suc r - 1 ≡ r = omega arith in rw e (suc-mul r w)
-
--- one row more behind those that are there
-pub put-row : (f : ℕ → List ℕ) (out new rest : List ℕ) (at w row : ℕ) → 1 ≤ row → at ≤ length out → length new ≡ w → new ≡ f (row - 1) →
-    take (at + w) (take at out ++ (new ++ rest)) ++ topFirst (row - 1) f ≡ take at out ++ topFirst row f
+-- ---- rows one under the other
+-- rows that are the same
+pub same-rows : (f g : ℕ → List ℕ) (n : ℕ) → ((j : ℕ) → j < n → f j ≡ g j) → topFirst n f ≡ topFirst n g
 unfolding topFirst
-put-row f out new rest at w zero h k l e = absurd (omega arith)
-put-row f out new rest at w (suc r) h k l e =
-    let n : suc r - 1 ≡ r = omega arith in
-    let long : length (take at out ++ new) ≡ at + w = simp (length-append, length-take-le) (omega arith) in
-    let front : take (at + w) (take at out ++ (new ++ rest)) ≡ take at out ++ new = ap (take (at + w)) (sym (append-assoc (take at out) new rest)) ∙ take-at (take at out ++ new) rest (at + w) long in
-    ap (λ (l : List ℕ). l ++ topFirst (suc r - 1) f) front ∙ append-assoc (take at out) new (topFirst (suc r - 1) f)
-    ∙ ap (λ (l : List ℕ). take at out ++ (l ++ topFirst (suc r - 1) f)) e
-    ∙ ap (λ (m : ℕ). take at out ++ (f m ++ topFirst m f)) n
+same-rows f g zero h = refl
+same-rows f g (suc n) h = let l : n < suc n = omega arith in rw (h n l, same-rows f g n (λ j m. h j (omega arith)))
 
--- no row is left
-pub last-row : (f : ℕ → List ℕ) (out : List ℕ) (at row : ℕ) → row ≡ 0 → length out ≤ at → out ≡ take at out ++ topFirst row f
+-- rows of zeros
+pub zero-rows : (width n : ℕ) → replicate (n * width) 0 ≡ topFirst n (λ j. replicate width 0)
 unfolding topFirst
-last-row f out at row e h = sym (take-all at out h) ∙ sym (append-nil (take at out)) ∙ ap (λ (r : ℕ). take at out ++ topFirst r f) (sym e)
+zero-rows width zero = ap (λ (m : ℕ). replicate {A = ℕ} m 0) (zero-mul width)
+zero-rows width (suc n) =
+    let e : suc n * width ≡ width + n * width = omega (arith, suc-mul n width) in
+    ap (λ (m : ℕ). replicate {A = ℕ} m 0) e ∙ sym (replicate-append-replicate width (n * width) 0) ∙ ap (λ (l : List ℕ). replicate width 0 ++ l) (zero-rows width n)
 
--- what stands behind the header is all replaced
-pub replaced : (h new last : List ℕ) (at : ℕ) → take at last ≡ h → take at last ++ (new ++ drop (length last - at) (drop at last)) ≡ h ++ new
-replaced h new last at e =
-    let n : length (drop at last) ≤ length last - at = simp length-drop (omega arith) in
-    ap (λ (l : List ℕ). take at last ++ (new ++ l)) (drop-of-length-le (drop at last) n) ∙ ap (λ (l : List ℕ). take at last ++ l) (append-nil new) ∙ ap (λ (l : List ℕ). l ++ new) e
+-- other rows laid over rows of so many bytes, which is what a band call does
+pub rows-over : (row f : ℕ → List ℕ) (width n : ℕ) → ((j : ℕ) → length (f j) ≡ width) → rowsOver row width n (topFirst n f) ≡ topFirst n (λ j. laidOver (f j) (row j))
+unfolding rowsOver topFirst
+rows-over row f width zero h = refl
+rows-over row f width (suc n) h =
+    ap₂ (λ (a b : List ℕ). laidOver a (row n) ++ rowsOver row width n b) (take-at (f n) (topFirst n f) width (h n)) (drop-at (f n) (topFirst n f) width (h n))
+    ∙ ap (λ (l : List ℕ). laidOver (f n) (row n) ++ l) (rows-over row f width n h)
+
+-- the rows from the k-th on stand over the k lowest
+pub rows-cut : (f : ℕ → List ℕ) (k m : ℕ) → topFirst (k + m) f ≡ topFirst m (λ j. f (k + j)) ++ topFirst k f
+unfolding topFirst
+rows-cut f k zero = let e : k + 0 ≡ k = omega arith in ap (λ (n : ℕ). topFirst n f) e
+rows-cut f k (suc m) =
+    let e : k + suc m ≡ suc (k + m) = omega arith in
+    ap (λ (n : ℕ). topFirst n f) e ∙ ap (λ (l : List ℕ). f (k + m) ++ l) (rows-cut f k m) ∙ sym (append-assoc (f (k + m)) (topFirst m (λ j. f (k + j))) (topFirst k f))
+
+-- one zero more
+pub replicate-snoc : (n a : ℕ) → replicate n a ++ (a ∷ []) ≡ replicate (suc n) a
+replicate-snoc zero a = refl
+replicate-snoc (suc n) a = ap (λ (l : List ℕ). a ∷ l) (replicate-snoc n a)

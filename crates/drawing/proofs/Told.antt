@@ -1,40 +1,31 @@
--- Which stroke is refused, and what is answered then: the claims StrokesTold and FilmRefuses.
+-- Which stroke is refused: the claim StrokesTold.
 --
 -- A stroke's check is that of its row call, which has room for the row, so that the two refuse alike.
-use Prim.Native.Nat.{ℕ, zero, suc, _+_, _*_, _≤_, _<_}
+use Prim.Native.Nat.{ℕ, zero, suc, _+_, _≤_, _<_}
 use native.Mathlib.Omega.{arith}
 use mathlib.Core.Path.{_≡_, refl, sym, ap, ap₂, subst, _∙_}
-use mathlib.Core.Logic.{inl, inr}
-use mathlib.Core.Bool.{Bool, true, false, _&&_}
-use mathlib.Core.List.{List}
+use mathlib.Core.Bool.{Bool, true, false}
 use lib.Dec.{eqb, ltb}
 use lib.ListN.{length, getD, replicate, length-replicate}
 use borrow.Author.Tests.{eqb-true, eqb-false, ltb-true, ltb-false, le-leb}
-use Rattle.limits.specs.Sizes.{isSize}
-use Rattle.limits.specs.Refusal.{raster, _then_}
+use Rattle.limits.specs.Refusal.{_then_}
 use Rattle.limits.specs.declared.Verdict.{Verdict}
 use Rattle.limits.specs.declared.Verdict.the-variants.{Passed, Refused}
-use Rattle.limits.proofs.Verdicts.{not-passed, NotZero, then-not-zero, unless-not-zero}
-use Rattle.limits.proofs.Exactly.{says-last}
+use Rattle.limits.proofs.Verdicts.{not-passed, NotZero}
 use Rattle.aperture.specs.declared.Looked.{Looked}
 use Rattle.aperture.specs.declared.Looked.the-variants as looked·
 use Rattle.aperture.specs.Table.{looked, lookedVerdict, heldCorners}
 use Rattle.checks.specs.declared.Answer.{Answer}
-use Rattle.checks.specs.Checks.{rasterVerdict, verdict}
+use Rattle.checks.specs.Checks.{verdict}
 use Rattle.checks.specs.Answer.{done, answerOf, Offer, given}
 use Rattle.checks.proofs.Verdicts.{verdict-not-zero}
-use Rattle.checks.proofs.Exactly.{settled-number, settled-place, settled-none}
 use Rattle.bits.specs.Bits.{packedLength}
 use Rattle.packed.specs.Packed.{packedOffer, packedCall}
-use Rattle.pbm.specs.Pbm.{header, fileOffer}
-use Rattle.pbm.proofs.Refusals.{file-refuses}
 use Rattle.drawing.specs.declared.StrokeVerdict.{StrokeVerdict}
 use Rattle.drawing.specs.declared.StrokeVerdict.the-variants.{Stroke}
-use Rattle.drawing.specs.Strokes.{Drawing, pathOf, strokeVerdict, firstFrom, firstRefused, strokesVerdict, filmVerdict}
-use Rattle.drawing.specs.Film.{film, filmPut}
-use Rattle.drawing.specs.Theorems.{strokeCall, TakesStroke, TakesAll, FirstStroke, StrokeTold, all, one, StrokesTold, FilmSays, FilmRefuses}
+use Rattle.drawing.specs.Strokes.{Drawing, tableIn, pathOf, strokeVerdict, firstFrom, firstRefused, strokesVerdict}
+use Rattle.drawing.specs.Theorems.{strokeCall, TakesStroke, TakesAll, FirstStroke, StrokeTold, all, one, StrokesTold}
 use Rattle.drawing.proofs.Taken.{no-stroke, stroke-taken, stroke-refused}
-use Rattle.drawing.proofs.Put.{film-long}
 
 -- ---- a call with room enough
 -- what it answers, by what its checks do
@@ -57,10 +48,10 @@ module _ (d : Drawing) (columns rows : ℕ) where
   call-answer k =
       let n = packedLength columns in
       let path = pathOf (d .starts) (d .entries) k in
-      enough (strokeVerdict d columns rows k) (packedOffer (heldCorners (d .table) (getD (d .apertures) k 0)) path columns 0 (replicate n 0)) (omega (arith, length-replicate {A = ℕ} n 0))
+      enough (strokeVerdict d columns rows k) (packedOffer (heldCorners (tableIn d) (getD (d .apertures) k 0)) path columns 0 (replicate n 0)) (omega (arith, length-replicate {A = ℕ} n 0))
 
   not-zero : (k : ℕ) → NotZero (strokeVerdict d columns rows k)
-  not-zero k = let path = pathOf (d .starts) (d .entries) k in stroke-not-zero (looked (d .table) (getD (d .apertures) k 0)) (verdict path columns rows 0) (verdict-not-zero path columns rows 0)
+  not-zero k = let path = pathOf (d .starts) (d .entries) k in stroke-not-zero (looked (tableIn d) (getD (d .apertures) k 0)) (verdict path columns rows 0) (verdict-not-zero path columns rows 0)
 
   pub passed-takes : (k : ℕ) → strokeVerdict d columns rows k ≡ Passed → TakesStroke d columns rows k
   passed-takes k e = ap (λ (a : Answer). a .refusal) (call-answer k ∙ ap (λ (v : Verdict). answered v (packedLength columns)) e)
@@ -113,41 +104,19 @@ pub all-taken : (d : Drawing) (columns rows : ℕ) {s : StrokeVerdict} → Strok
 all-taken d columns rows (all h) e = h
 all-taken d columns rows (one k f) e = not-passed e
 
--- a refusal of a film is never 0
-pub film-not-zero : (d : Drawing) (columns rows : ℕ) → NotZero (filmVerdict d columns rows)
-film-not-zero d columns rows = then-not-zero (strokesVerdict (firstRefused d columns rows)) _ (go (strokes-told d columns rows)) (unless-not-zero (isSize columns && isSize rows) raster)
+-- a refusal of the strokes is never 0
+pub strokes-not-zero : (d : Drawing) (columns rows : ℕ) → NotZero (strokesVerdict (firstRefused d columns rows))
+strokes-not-zero d columns rows = go (strokes-told d columns rows)
   where
     go : {s : StrokeVerdict} → StrokeTold d columns rows s → NotZero (strokesVerdict s)
     go (all h) = tt
     go (one k f) = let n : ¬ (strokeCall d columns rows k .answer .refusal ≡ 0) = f .refused in omega arith
 
--- ---- the film's answer
 -- there is one first stroke
-same-first : (d : Drawing) (columns rows : ℕ) {k m : ℕ} → FirstStroke d columns rows k → FirstStroke d columns rows m → k ≡ m
+pub same-first : (d : Drawing) (columns rows : ℕ) {k m : ℕ} → FirstStroke d columns rows k → FirstStroke d columns rows m → k ≡ m
 same-first d columns rows {k} {m} f g = go (ltb k m) (ltb m k) refl refl
   where
     go : (a b : Bool) → ltb k m ≡ a → ltb m k ≡ b → k ≡ m
     go true b p q = absurd (f .refused (g .earlier k (ltb-true k m p)))
     go false true p q = absurd (g .refused (f .earlier m (ltb-true m k q)))
     go false false p q = omega (arith, ltb-false k m p, ltb-false m k q)
-
-says : (d : Drawing) (columns rows : ℕ) (f b : List ℕ) {s : StrokeVerdict} → StrokeTold d columns rows s →
-    FilmSays d columns rows (length f) b (given (strokesVerdict s then rasterVerdict columns rows) (fileOffer f b))
-says d columns rows f b (all h) =
-    let r = file-refuses columns rows f b in
-    record { either = inr h; stroke = λ k g. absurd (g .refused (h k (g .one))); file = λ _. r; none = r .none; kept = r .kept }
-says d columns rows f b (one k g) = record {
-  either = inl (k, g);
-  stroke = λ m e. refused-whole d columns rows k (g .refused) ∙ ap (λ (i : ℕ). strokeCall d columns rows i .answer) (same-first d columns rows g e);
-  file = λ h. absurd (g .refused (h k (g .one)));
-  none = λ _. refl;
-  kept = λ _. refl;
-}
-
--- the film's length is that of the header and of rows of so many bytes
-pub film-refuses : FilmRefuses
-film-refuses d columns rows width w b =
-    let n : packedLength columns ≡ width = omega (arith, w .enough, w .least) in
-    let e : length (film d columns rows) ≡ length (header columns rows) + rows * width =
-    film-long d columns rows ∙ ap (λ (k : ℕ). length (header columns rows) + rows * k) n in
-    subst (λ (k : ℕ). FilmSays d columns rows k b (filmPut d columns rows b)) e (says d columns rows (film d columns rows) b (strokes-told d columns rows))

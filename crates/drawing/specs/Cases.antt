@@ -1,6 +1,6 @@
 -- Document 01: "The whole PBM file for w=16, dot at (32,16), 5 columns, 3 rows: the characters P4, newline, 5, space, 3, newline; then the bytes 0, 32, 0."
 use mathlib.Core.Path.{_≡_, refl}
-use mathlib.Core.List.{List, [], _∷_}
+use mathlib.Core.List.{List, [], _∷_, _++_}
 use Prim.Native.Nat.{ℕ}
 use lib.IntN.{ℤ, pos}
 use Rattle.setting.specs.declared.Setting.{Setting}
@@ -18,9 +18,8 @@ use Rattle.stroke.specs.Sweep.{pathPoints}
 use Rattle.bits.specs.Bits.{bitsFrom, bytesFrom, packed}
 use Rattle.text.specs.Decimal.{lastDigits}
 use Rattle.pbm.specs.Pbm.{topFirst, file}
-use Rattle.drawing.specs.Settings.{tableOf}
 use Rattle.drawing.specs.Strokes.{Drawing}
-use Rattle.drawing.specs.Film.{film}
+use Rattle.drawing.specs.Film.{film, bandOf}
 
 abbrev pub dotSetting : Setting
 dotSetting = record { w = 16; p = 1; q = 1 }
@@ -31,8 +30,16 @@ dotSettings = 16 ∷ 1 ∷ 1 ∷ []
 abbrev pub dotPath : List ℤ
 dotPath = pos 32 ∷ pos 16 ∷ []
 
+-- "the characters P4, newline, 5, space, 3, newline"
+abbrev pub dotHeader : List ℕ
+dotHeader = 80 ∷ 52 ∷ 10 ∷ 53 ∷ 32 ∷ 51 ∷ 10 ∷ []
+
+-- "then the bytes 0, 32, 0"
+abbrev pub dotRows : List ℕ
+dotRows = 0 ∷ 32 ∷ 0 ∷ []
+
 abbrev pub dotBytes : List ℕ
-dotBytes = 80 ∷ 52 ∷ 10 ∷ 53 ∷ 32 ∷ 51 ∷ 10 ∷ 0 ∷ 32 ∷ 0 ∷ []
+dotBytes = dotHeader ++ dotRows
 
 -- the file of the pixels that are black by the rules
 pub dot-file : file 5 3 (λ j. packed (λ x. blackAt (pen dotSetting) (pathPoints dotPath) (pos j) (pos x)) 5) ≡ dotBytes
@@ -41,9 +48,12 @@ unfolding
     furthest sides kept inRange narrowed extent pathPoints bitsFrom bytesFrom lastDigits topFirst
 dot-file = refl
 
--- the drawing that has this dot only, with aperture 10; its film is that file (proofs/Dot.antt)
+-- the drawing that has this dot only, with aperture 10; its film is that file, in one band (proofs/Dot.antt)
 abbrev pub dotDrawing : Drawing
-dotDrawing = record { table = tableOf dotSettings .table; apertures = 10 ∷ []; starts = 0 ∷ 2 ∷ []; entries = dotPath }
+dotDrawing = record { settings = dotSettings; apertures = 10 ∷ []; starts = 0 ∷ 2 ∷ []; entries = dotPath }
 
 abbrev pub DotFilm : Type 0
 DotFilm = film dotDrawing 5 3 ≡ dotBytes
+
+abbrev pub DotBand : Type 0
+DotBand = bandOf dotDrawing 5 3 0 3 ≡ dotRows

@@ -9,22 +9,27 @@ use lib.Seq.{slice}
 use lib.IntN.{ℤ}
 use Rattle.limits.specs.declared.Verdict.{Verdict}
 use Rattle.limits.specs.declared.Verdict.the-variants.{Passed, Refused}
-use Rattle.limits.specs.Refusal.{_then_}
+use Rattle.limits.specs.Refusal.{aperture, unless, _then_}
 use Rattle.checks.specs.Checks.{rasterVerdict, callVerdict}
 use Rattle.aperture.specs.declared.Table.{Table}
 use Rattle.aperture.specs.Table.{looked, lookedVerdict}
 use Rattle.drawing.specs.declared.StrokeVerdict.{StrokeVerdict}
 use Rattle.drawing.specs.declared.StrokeVerdict.the-variants.{AllTaken, Stroke}
+use Rattle.drawing.specs.Settings.{tableOf, settingsVerdict, isOneOf}
 
--- the table, the aperture of each stroke, where each stroke's entries start, with the end of the last, and the entries of all
+-- the settings of the apertures, the aperture of each stroke, where each stroke's entries start, with the end of the last, and the entries of all
 pub record Drawing : Type 0 where
-  pub table : Table
+  pub settings : List ℕ
   pub apertures : List ℕ
   pub starts : List ℕ
   pub entries : List ℤ
 
-abbrev pub drawingOf : Table → List ℕ → List ℕ → List ℤ → Drawing
-drawingOf t apertures starts entries = record { table = t; apertures = apertures; starts = starts; entries = entries }
+abbrev pub drawingOf : List ℕ → List ℕ → List ℕ → List ℤ → Drawing
+drawingOf settings apertures starts entries = record { settings = settings; apertures = apertures; starts = starts; entries = entries }
+
+-- the table of its apertures
+abbrev pub tableIn : Drawing → Table
+tableIn d = tableOf (d .settings) .table
 
 -- the path of stroke k: the entries from start k on and before start k + 1, a start that is missing counting as 0. Where the two are not in order, or the list
 -- of entries ends before the second, there are none, and the stroke is refused with 2
@@ -39,7 +44,7 @@ abbrev pub rowZeroVerdict : Table → ℕ → List ℤ → ℕ → ℕ → Verdi
 rowZeroVerdict t n path columns rows = callVerdict (lookedVerdict (looked t n)) path columns rows 0
 
 abbrev pub strokeVerdict : Drawing → ℕ → ℕ → ℕ → Verdict
-strokeVerdict d columns rows k = rowZeroVerdict (d .table) (getD (d .apertures) k 0) (pathOf (d .starts) (d .entries) k) columns rows
+strokeVerdict d columns rows k = rowZeroVerdict (tableIn d) (getD (d .apertures) k 0) (pathOf (d .starts) (d .entries) k) columns rows
 
 -- n strokes from stroke k on, one after the other: which is the first that is refused, and with what
 unfoldable pub firstFrom : Drawing → ℕ → ℕ → ℕ → ℕ → StrokeVerdict
@@ -55,11 +60,15 @@ abbrev pub strokesVerdict : StrokeVerdict → Verdict
 strokesVerdict AllTaken = Passed
 strokesVerdict (Stroke k number place) = Refused number place
 
--- the strokes, and then the raster by itself: 4 is told of a drawing without strokes too
+-- the settings, the strokes, and then the raster by itself: 4 is told of a drawing without strokes too
 abbrev pub filmVerdict : Drawing → ℕ → ℕ → Verdict
-filmVerdict d columns rows = strokesVerdict (firstRefused d columns rows) then rasterVerdict columns rows
+filmVerdict d columns rows = settingsVerdict (d .settings) then strokesVerdict (firstRefused d columns rows) then rasterVerdict columns rows
 
 -- ---- what the code is asked
+-- the checks of a stroke, where so many apertures are held
+abbrev pub heldVerdict : ℕ → ℕ → List ℤ → ℕ → ℕ → Verdict
+heldVerdict held n path columns rows = callVerdict (unless (isOneOf held n) aperture) path columns rows 0
+
 -- the entries from `first` on and before `end` are the path of stroke k
 pub record Spans (starts : List ℕ) (entries : List ℤ) (k first end : ℕ) : Type 0 where
   pub ordered : first ≤ end

@@ -1,15 +1,17 @@
--- What the calls of this crate promise, in document 01's words, from their answers alone: nothing is asked of a drawing but that its table was made by defining
--- and removing, and `TableMade` says that every table made here is. The claims are types; each is proved in proofs/ under its name in small letters.
+-- What the calls of this crate promise, in document 01's words, from their answers alone: nothing is asked of a drawing. The claims are types; each is proved in
+-- proofs/ under its name in small letters.
 --
 -- Why it is true: every stroke is checked as a row call of it checks, before anything is drawn. So where the answer is 0 each aperture holds a setting and that
 -- setting's pen, and each path is drawn in every row; the rows laid over each other have a bit set where some stroke makes the pixel black.
 use Prim.Native.Nat.{ℕ, _+_, _-_, _*_, _/_, _%_, _^_, _≤_, _<_}
 use mathlib.Core.Path.{_≡_}
 use mathlib.Core.Logic.{_↔_, _⊎_}
-use mathlib.Core.List.{List}
+use mathlib.Core.List.{List, _++_}
 use lib.ListN.{length, getD, take, drop, replicate}
 use lib.IntN.{pos}
-use Rattle.limits.specs.declared.Verdict.the-variants.{Passed}
+use Rattle.limits.specs.declared.Verdict.{Verdict}
+use Rattle.limits.specs.declared.Verdict.the-variants.{Passed, Refused}
+use Rattle.limits.specs.Exactly.{_when_else_, done, BadRaster, NoRoom}
 use Rattle.setting.specs.declared.Setting.{Setting}
 use Rattle.setting.specs.Exactly.{BadSetting}
 use Rattle.pen.specs.Polygon.{pen}
@@ -22,20 +24,27 @@ use Rattle.checks.specs.Checks.{verdict}
 use Rattle.checks.specs.Answer.{Result}
 use Rattle.bits.specs.Bits.{packedLength}
 use Rattle.packed.specs.Packed.{packedCall}
+use Rattle.band.specs.Refuses.{BadBand}
 use Rattle.pbm.specs.Pbm.{header}
-use Rattle.pbm.specs.Theorems.{FileRefuses}
-use Rattle.drawing.specs.declared.Tabled.{Tabled}
 use Rattle.drawing.specs.declared.StrokeVerdict.{StrokeVerdict}
 use Rattle.drawing.specs.declared.StrokeVerdict.the-variants.{AllTaken, Stroke}
-use Rattle.drawing.specs.Settings.{settingAt, settingCount, tableOf}
-use Rattle.drawing.specs.Strokes.{Drawing, pathOf, firstRefused}
-use Rattle.drawing.specs.Film.{rowOf, filmPut}
+use Rattle.drawing.specs.Settings.{settingAt, settingCount, Tabled, tableOf, settingsVerdict}
+use Rattle.drawing.specs.Strokes.{Drawing, tableIn, pathOf, firstRefused}
+use Rattle.drawing.specs.Film.{rowOf, film, bandOf, bandPut}
 
 -- ---- the table
+-- setting i can be defined: there is an aperture for it, and it is within the limits
+pub record GoodSetting (l : List ℕ) (i : ℕ) : Type 0 where
+  pub number : ¬ NoNumber (10 + i)
+  pub limits : ¬ BadSetting (settingAt l i)
+
+abbrev pub GoodSettings : List ℕ → Type 0
+GoodSettings l = (i : ℕ) → i < settingCount l → GoodSetting l i
+
 -- setting `place` is the first that cannot be defined: those before it can, and it gets 6 as a 33rd, or 1 for being outside the limits
 pub record FirstBadSetting (l : List ℕ) (number place : ℕ) : Type 0 where
   pub one : place < settingCount l
-  pub earlier : (i : ℕ) → i < place → ¬ NoNumber (10 + i) × ¬ BadSetting (settingAt l i)
+  pub earlier : (i : ℕ) → i < place → GoodSetting l i
   pub exactly : (NoNumber (10 + place) × (number ≡ 6)) ⊎ (¬ NoNumber (10 + place) × (BadSetting (settingAt l place) × (number ≡ 1)))
 
 -- "only defining and removing change it. Statements speak of tables so made"; 0 says that every setting stands in the table, the first as aperture 10
@@ -48,10 +57,18 @@ pub record MadeTable (l : List ℕ) (r : Tabled) : Type 0 where
 abbrev pub TableMade : Type 0
 TableMade = (l : List ℕ) → MadeTable l (tableOf l)
 
+-- which setting is told: the first that is refused, with its number and its place in the list
+pub data SettingTold (l : List ℕ) : Verdict → Type 0 where
+  good : GoodSettings l → SettingTold l Passed
+  bad : (number place : ℕ) → FirstBadSetting l number place → SettingTold l (Refused number place)
+
+abbrev pub SettingsTold : Type 0
+SettingsTold = (l : List ℕ) → SettingTold l (settingsVerdict l)
+
 -- ---- the refusals
 -- the row call of stroke k, asked for row 0, with room for the row; what such a call refuses, PackedRefuses (demands) says
 abbrev pub strokeCall : Drawing → ℕ → ℕ → ℕ → Result ℕ
-strokeCall d columns rows k = packedCall (d .table) (getD (d .apertures) k 0) (pathOf (d .starts) (d .entries) k) columns rows 0 (replicate (packedLength columns) 0)
+strokeCall d columns rows k = packedCall (tableIn d) (getD (d .apertures) k 0) (pathOf (d .starts) (d .entries) k) columns rows 0 (replicate (packedLength columns) 0)
 
 abbrev pub TakesStroke : Drawing → ℕ → ℕ → ℕ → Type 0
 TakesStroke d columns rows k = strokeCall d columns rows k .answer .refusal ≡ 0
@@ -74,12 +91,20 @@ pub data StrokeTold (d : Drawing) (columns rows : ℕ) : StrokeVerdict → Type 
 abbrev pub StrokesTold : Type 0
 StrokesTold = (d : Drawing) (columns rows : ℕ) → StrokeTold d columns rows (firstRefused d columns rows)
 
--- a film is answered as the row call of the first stroke that is refused; where all are taken 4 and 7 are left, for the raster and for the room. `needed` is the
--- film's length. "with 0 runs, and nothing lent is changed"
-pub record FilmSays (d : Drawing) (columns rows needed : ℕ) (before : List ℕ) (r : Result ℕ) : Type 0 where
-  pub either : ((k : ℕ) × FirstStroke d columns rows k) ⊎ TakesAll d columns rows
-  pub stroke : (k : ℕ) → FirstStroke d columns rows k → r .answer ≡ strokeCall d columns rows k .answer
-  pub file : TakesAll d columns rows → FileRefuses columns rows needed before r
+-- what is left to be refused of a band where all settings and strokes are taken, in the words of the table: 4, then 5 where it has no rows or one that is none of
+-- the raster's, then 7, for its rows of `width` bytes
+pub record RestRefuses (columns rows first n width : ℕ) (before : List ℕ) (r : Result ℕ) : Type 0 where
+  pub exactly : (k : ℕ) → (r .answer .refusal ≡ k) ↔ (4 when BadRaster columns rows else 5 when BadBand rows first n else 7 when NoRoom (n * width) (length before) else done) k
+  pub nowhere : r .answer .place ≡ 0
+
+-- a band is answered with the first setting that is refused, then as the row call of the first stroke that is refused, and then with what is left. "with 0 runs,
+-- and nothing lent is changed"
+pub record BandSays (d : Drawing) (columns rows first n width : ℕ) (before : List ℕ) (r : Result ℕ) : Type 0 where
+  pub either : ((number : ℕ) × (place : ℕ) × FirstBadSetting (d .settings) number place)
+      ⊎ (GoodSettings (d .settings) × (((k : ℕ) × FirstStroke d columns rows k) ⊎ TakesAll d columns rows))
+  pub setting : (number place : ℕ) → FirstBadSetting (d .settings) number place → r .answer ≡ record { refusal = number; place = place; count = 0 }
+  pub stroke : GoodSettings (d .settings) → (k : ℕ) → FirstStroke d columns rows k → r .answer ≡ strokeCall d columns rows k .answer
+  pub rest : GoodSettings (d .settings) → TakesAll d columns rows → RestRefuses columns rows first n width before r
   pub none : ¬ (r .answer .refusal ≡ 0) → r .answer .count ≡ 0
   pub kept : ¬ (r .answer .refusal ≡ 0) → r .list ≡ before
 
@@ -88,29 +113,34 @@ pub record RowWidth (columns width : ℕ) : Type 0 where
   pub enough : columns ≤ 8 * width
   pub least : 8 * width < columns + 8
 
-abbrev pub FilmRefuses : Type 0
-FilmRefuses =
-    (d : Drawing) (columns rows width : ℕ) → RowWidth columns width → (b : List ℕ) →
-    FilmSays d columns rows (length (header columns rows) + rows * width) b (filmPut d columns rows b)
+abbrev pub BandPutRefuses : Type 0
+BandPutRefuses =
+    (d : Drawing) (columns rows first n width : ℕ) → RowWidth columns width → (b : List ℕ) →
+    BandSays d columns rows first n width b (bandPut d columns rows first n b)
 
--- ---- the film
--- a film that was put: the table was made by defining and removing, and the answer is 0
-pub record FilmDone (d : Drawing) (columns rows width : ℕ) (b : List ℕ) : Type 0 where
-  pub reachable : Reachable (d .table)
+-- ---- the band
+-- a band that was put: the answer is 0
+pub record BandDone (d : Drawing) (columns rows first n width : ℕ) (b : List ℕ) : Type 0 where
   pub wide : RowWidth columns width
-  pub answer : filmPut d columns rows b .answer .refusal ≡ 0
+  pub answer : bandPut d columns rows first n b .answer .refusal ≡ 0
 
 -- the setting of stroke k's aperture
 abbrev pub settingOf : Drawing → ℕ → Setting
-settingOf d k = placeOf (d .table) (getD (d .apertures) k 0) .setting
+settingOf d k = placeOf (tableIn d) (getD (d .apertures) k 0) .setting
 
 -- every stroke was taken: its aperture holds its setting and that setting's pen, and its path passes the checks in every row
 pub record DrawableFilm (d : Drawing) (columns rows : ℕ) : Type 0 where
-  pub holds : (k : ℕ) → k < length (d .apertures) → Holds (d .table) (getD (d .apertures) k 0) (settingOf d k)
+  pub holds : (k : ℕ) → k < length (d .apertures) → Holds (tableIn d) (getD (d .apertures) k 0) (settingOf d k)
   pub passes : (k j : ℕ) → k < length (d .apertures) → j < rows → verdict (pathOf (d .starts) (d .entries) k) columns rows j ≡ Passed
 
-abbrev pub FilmTaken : Type 0
-FilmTaken = (d : Drawing) (columns rows width : ℕ) (b : List ℕ) → FilmDone d columns rows width b → DrawableFilm d columns rows
+-- of the setting it is said again from the list: aperture 10 + i is setting i
+pub record TakenBand (d : Drawing) (columns rows first n : ℕ) : Type 0 where
+  pub drawable : DrawableFilm d columns rows
+  pub settings : (k : ℕ) → k < length (d .apertures) → settingOf d k ≡ settingAt (d .settings) (getD (d .apertures) k 0 - 10)
+  pub inside : first + n ≤ rows
+
+abbrev pub BandTaken : Type 0
+BandTaken = (d : Drawing) (columns rows first n width : ℕ) (b : List ℕ) → BandDone d columns rows first n width b → TakenBand d columns rows first n
 
 -- some stroke, with the pen of its aperture's setting, makes pixel (i, j) black, by existence
 abbrev pub StrokeBlack : Drawing → ℕ → ℕ → Type 0
@@ -121,24 +151,34 @@ StrokeBlack d i j = (k : ℕ) × (k < length (d .apertures)) × BlackPath (pen (
 abbrev pub BitBlack : Drawing → ℕ → List ℕ → ℕ → ℕ → ℕ → Type 0
 BitBlack d columns bytes at i j = (getD bytes (at + i / 8) 0 / 2 ^ (7 - i % 8) % 2 ≡ 1) ↔ ((i < columns) × StrokeBlack d i j)
 
--- a row by itself
+-- a row by itself, any of the film's, where some band of it was put
 abbrev pub FilmRow : Type 0
 FilmRow =
-    (d : Drawing) (columns rows width : ℕ) (b : List ℕ) → FilmDone d columns rows width b → (i j : ℕ) → i < 8 * width → j < rows →
+    (d : Drawing) (columns rows first n width : ℕ) (b : List ℕ) → BandDone d columns rows first n width b → (i j : ℕ) → i < 8 * width → j < rows →
     BitBlack d columns (rowOf d columns rows width j) 0 i j
 
--- a header and then rows of so many bytes. "The top row comes first": above row j there are rows - 1 - j
-pub record FilmBits (d : Drawing) (columns rows width : ℕ) (bytes : List ℕ) : Type 0 where
-  pub size : length bytes ≡ length (header columns rows) + rows * width
-  pub small : (n : ℕ) → n < length bytes → getD bytes n 0 < 256
-  pub head : take (length (header columns rows)) bytes ≡ header columns rows
-  pub bit : (i j : ℕ) → i < 8 * width → j < rows → BitBlack d columns bytes (length (header columns rows) + (rows - 1 - j) * width) i j
+-- n rows of so many bytes. "The top row comes first": above row first + j of the film there are n - 1 - j rows of the band
+pub record BandBits (d : Drawing) (columns first n width : ℕ) (bytes : List ℕ) : Type 0 where
+  pub size : length bytes ≡ n * width
+  pub small : (m : ℕ) → m < length bytes → getD bytes m 0 < 256
+  pub bit : (i j : ℕ) → i < 8 * width → j < n → BitBlack d columns bytes ((n - 1 - j) * width) i (first + j)
 
--- what stands in the buffer at exit: the film, as many bytes as are counted, and behind it the bytes that were there
-pub record FilmGiven (d : Drawing) (columns rows width : ℕ) (before : List ℕ) (r : Result ℕ) : Type 0 where
-  pub film : FilmBits d columns rows width (take (r .answer .count) (r .list))
-  pub count : r .answer .count ≡ length (header columns rows) + rows * width
+-- what stands in the buffer at exit: the band, as many bytes as are counted, and behind it the bytes that were there
+pub record BandGiven (d : Drawing) (columns first n width : ℕ) (before : List ℕ) (r : Result ℕ) : Type 0 where
+  pub band : BandBits d columns first n width (take (r .answer .count) (r .list))
+  pub count : r .answer .count ≡ n * width
   pub rest : drop (r .answer .count) (r .list) ≡ drop (r .answer .count) before
 
-abbrev pub FilmBit : Type 0
-FilmBit = (d : Drawing) (columns rows width : ℕ) (b : List ℕ) → FilmDone d columns rows width b → FilmGiven d columns rows width b (filmPut d columns rows b)
+abbrev pub BandBit : Type 0
+BandBit =
+    (d : Drawing) (columns rows first n width : ℕ) (b : List ℕ) → BandDone d columns rows first n width b →
+    BandGiven d columns first n width b (bandPut d columns rows first n b)
+
+-- ---- the film of its bands
+-- the whole file is a header and the band of all rows; and two bands meet at any seam, the upper one first
+pub record MadeOfBands (d : Drawing) (columns rows : ℕ) : Type 0 where
+  pub whole : film d columns rows ≡ header columns rows ++ bandOf d columns rows 0 rows
+  pub meet : (first k m : ℕ) → bandOf d columns rows first (k + m) ≡ bandOf d columns rows (first + k) m ++ bandOf d columns rows first k
+
+abbrev pub BandsMakeFilm : Type 0
+BandsMakeFilm = (d : Drawing) (columns rows : ℕ) → MadeOfBands d columns rows

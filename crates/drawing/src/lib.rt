@@ -1,38 +1,26 @@
-// The film of a drawing: several strokes, each with an aperture of a table, as a whole raw PBM
-// file. A drawing is four lists: the settings of the apertures, w, p, q of each; the aperture of
+// The film of a drawing: several strokes, each with an aperture, in rows as a raw PBM file has them.
+// A drawing is four lists: the settings of the apertures from 10 on, w, p, q of each; the aperture of
 // each stroke; where each stroke's entries start, with the end of the last; the entries of all.
 //
-// The way of the data: the settings become a table, each stroke is checked (strokes), the strokes'
-// packed rows are laid over each other (row), and the rows put behind a header (film).
-use aperture::Table;
+// The way of the data: the settings are checked (settings) and then each stroke (strokes); and of a
+// film that passes any band can be put, so that a film of any size is written with little memory.
+// Its bytes are cleared, and the strokes laid over them (laid).
 use checks::Answer;
 use limits::Verdict;
+use settings::held_count;
 use strokes::span_of;
 use strokes::stroke_check;
 ghost use mathlib.Core.Path.{_≡_};
-ghost use lib.ListN.{getD};
-ghost use Rattle.drawing.specs.Settings.{tableOf};
+ghost use Rattle.checks.specs.Checks.{rowVerdict};
+ghost use Rattle.band.specs.Band.{topRow};
 ghost use Rattle.drawing.specs.Strokes.{drawingOf, firstRefused, filmVerdict};
-ghost use Rattle.drawing.specs.Film.{filmPut};
+ghost use Rattle.drawing.specs.Film.{bandVerdict, bandPut};
 
-mod film;
-mod row;
+mod laid;
+mod settings;
 mod strokes;
 
-// What a row of the film is drawn with: the apertures, and the raster's size.
-pub struct Sheet {
-    pub table: Table,
-    pub columns: u64,
-    pub rows: u64,
-}
-
-// Document 01's refusal number, the index of the setting that is refused, and the table, in which
-// no aperture is defined on a refusal.
-pub struct Tabled {
-    pub refusal: u64,
-    pub place: u64,
-    pub table: Table,
-}
+pub use settings::settings_check;
 
 // Whether a row call takes every stroke; or the index of the first that it refuses, with document
 // 01's number and place.
@@ -41,50 +29,9 @@ pub enum StrokeVerdict {
     Stroke(usize, u64, u64),
 }
 
-// The number at index k; one that is missing counts as 0.
-fn number(settings: &[u64], k: usize) -> u64
-    ensures { λ r. ⌜ r ≡ getD (now (settings .entry)) k 0 ⌝ }
-{
-    if k < settings.len() { settings[k] } else { 0 }
-}
-
-// The table with the settings as apertures 10, 11, .. The first that cannot be defined is refused.
-pub fn table(settings: &[u64]) -> Tabled
-    ensures { λ r. ⌜ r ≡ tableOf (now (settings .entry)) ⌝ }
-{
-    let n = (settings.len() + 2) / 3;
-    let mut t = aperture::none();
-    let mut i = 0;
-    while i < n {
-        let at = 3 * i;
-        let changed = aperture::define(
-            t,
-            limits::APERTURE_MIN + i as u64,
-            number(settings, at),
-            number(settings, at + 1),
-            number(settings, at + 2),
-        );
-        if changed.refusal != limits::DONE {
-            let nothing = aperture::none();
-            return Tabled {
-                refusal: changed.refusal,
-                place: i as u64,
-                table: nothing,
-            };
-        }
-        t = changed.table;
-        i += 1;
-    }
-    Tabled {
-        refusal: limits::DONE,
-        place: 0,
-        table: t,
-    }
-}
-
 // The first stroke that a row call refuses, asked for row 0.
 pub fn first_refused(
-    table: Table,
+    settings: &[u64],
     apertures: &[u64],
     starts: &[usize],
     entries: &[i32],
@@ -92,14 +39,15 @@ pub fn first_refused(
     rows: u64,
 ) -> StrokeVerdict
     ensures { λ r. ⌜ r
-        ≡ firstRefused (drawingOf table (now (apertures .entry)) (now (starts .entry)) (now (entries .entry))) columns rows ⌝ }
+        ≡ firstRefused (drawingOf (now (settings .entry)) (now (apertures .entry)) (now (starts .entry)) (now (entries .entry))) columns rows ⌝ }
 {
+    let held = held_count(settings);
     let mut k = 0;
     while k < apertures.len() {
         let s = span_of(starts, entries, k);
         let first = s.first;
         let end = s.end;
-        let of_stroke = stroke_check(table, apertures[k], &entries[first..end], columns, rows);
+        let of_stroke = stroke_check(held, apertures[k], &entries[first..end], columns, rows);
         if let Verdict::Refused(number, place) = of_stroke {
             return StrokeVerdict::Stroke(k, number, place);
         }
@@ -108,9 +56,9 @@ pub fn first_refused(
     StrokeVerdict::AllTaken
 }
 
-// The strokes, and then the raster by itself, which a drawing without strokes has too.
+// The settings, the strokes, and then the raster by itself, which a drawing without strokes has too.
 fn film_check(
-    table: Table,
+    settings: &[u64],
     apertures: &[u64],
     starts: &[usize],
     entries: &[i32],
@@ -118,44 +66,103 @@ fn film_check(
     rows: u64,
 ) -> Verdict
     ensures { λ r. ⌜ r
-        ≡ filmVerdict (drawingOf table (now (apertures .entry)) (now (starts .entry)) (now (entries .entry))) columns rows ⌝ }
+        ≡ filmVerdict (drawingOf (now (settings .entry)) (now (apertures .entry)) (now (starts .entry)) (now (entries .entry))) columns rows ⌝ }
 {
-    let of_strokes = first_refused(table, apertures, starts, entries, columns, rows);
+    let of_settings = settings_check(settings);
+    let Verdict::Passed = of_settings else {
+        return of_settings;
+    };
+    let of_strokes = first_refused(settings, apertures, starts, entries, columns, rows);
     let StrokeVerdict::Stroke(k, number, place) = of_strokes else {
         return checks::raster_check(columns, rows);
     };
     Verdict::Refused(number, place)
 }
 
-// Puts the whole file at the start of out. Where a stroke is refused, a size is outside its limits
-// or out is too short, the film is refused with the number of the first of these, and out is
-// unchanged.
-pub fn put_film(
-    table: Table,
+// Whether there are rows, and all of them are the raster's.
+fn rows_check(rows: u64, first: u64, n: u64) -> Verdict
+    ensures { λ r. ⌜ r ≡ rowVerdict rows (topRow rows first n) ⌝ }
+{
+    if n == 0 {
+        return Verdict::Refused(limits::BAD_ROW, 0);
+    }
+    if rows < first {
+        return Verdict::Refused(limits::BAD_ROW, 0);
+    }
+    if rows - first < n {
+        return Verdict::Refused(limits::BAD_ROW, 0);
+    }
+    Verdict::Passed
+}
+
+// The film, and then the rows that are asked for.
+fn band_check(
+    settings: &[u64],
     apertures: &[u64],
     starts: &[usize],
     entries: &[i32],
     columns: u64,
     rows: u64,
+    first: u64,
+    n: u64,
+) -> Verdict
+    ensures { λ r. ⌜ r
+        ≡ bandVerdict (drawingOf (now (settings .entry)) (now (apertures .entry)) (now (starts .entry)) (now (entries .entry))) columns rows first n ⌝ }
+{
+    let of_film = film_check(settings, apertures, starts, entries, columns, rows);
+    let Verdict::Passed = of_film else {
+        return of_film;
+    };
+    rows_check(rows, first, n)
+}
+
+// Puts n rows of the film, from row `first` on, at the start of out, the top one first. Where a
+// setting or a stroke is refused, a size is outside its limits, a row is none of the raster's or out
+// is too short, the number of the first of these is the answer, and out is unchanged.
+pub fn put_band(
+    settings: &[u64],
+    apertures: &[u64],
+    starts: &[usize],
+    entries: &[i32],
+    columns: u64,
+    rows: u64,
+    first: u64,
+    n: u64,
     out: &mut [u8],
 ) -> Answer
     ensures { λ r. ⌜ record { answer = r; list = now (out .exit) }
-        ≡ filmPut (drawingOf table (now (apertures .entry)) (now (starts .entry)) (now (entries .entry))) columns rows (now (out .entry)) ⌝ }
+        ≡ bandPut (drawingOf (now (settings .entry)) (now (apertures .entry)) (now (starts .entry)) (now (entries .entry))) columns rows first n (now (out .entry)) ⌝ }
 {
-    let checked = film_check(table, apertures, starts, entries, columns, rows);
+    let checked = band_check(
+        settings,
+        apertures,
+        starts,
+        entries,
+        columns,
+        rows,
+        first,
+        n,
+    );
     let Verdict::Passed = checked else {
         return checks::report(checked);
     };
-    let length = film::length_of(columns, rows);
+    let width = bits::length_of(columns as usize);
+    let length = n as usize * width;
     let room = checks::room_check(length, out.len());
     let Verdict::Passed = room else {
         return checks::report(room);
     };
-    let sheet = Sheet {
-        table,
+    laid::draw(
+        settings,
+        apertures,
+        starts,
+        entries,
         columns,
         rows,
-    };
-    film::put_file(sheet, apertures, starts, entries, &mut out[..length]);
+        first,
+        n,
+        &mut out[..length],
+        width,
+    );
     checks::done(length)
 }

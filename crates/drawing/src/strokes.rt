@@ -1,11 +1,10 @@
 // One stroke of a drawing: where its entries stand, and what is checked of it.
-use aperture::Looked;
-use aperture::Table;
+use crate::settings::is_held;
 use limits::Verdict;
 ghost use mathlib.Core.Path.{_≡_};
 ghost use Prim.Native.Nat.{_+_, _<_, _^_};
 ghost use lib.ListN.{getD};
-ghost use Rattle.drawing.specs.Strokes.{Spans, rowZeroVerdict};
+ghost use Rattle.drawing.specs.Strokes.{Spans, heldVerdict};
 
 // Where a stroke's entries stand, from `first` on and before `end`.
 pub struct Span {
@@ -33,12 +32,12 @@ pub fn span_of(starts: &[usize], entries: &[i32], k: usize) -> Span
     Span { first: 0, end: 0 }
 }
 
-// What a row call checks of a stroke, asked for row 0, in its order.
-pub fn stroke_check(table: Table, number: u64, path: &[i32], columns: u64, rows: u64) -> Verdict
-    ensures { λ r. ⌜ r ≡ rowZeroVerdict table number (now (path .entry)) columns rows ⌝ }
+// What a row call checks of a stroke, asked for row 0, in its order. So many apertures are held.
+pub fn stroke_check(held: u64, number: u64, path: &[i32], columns: u64, rows: u64) -> Verdict
+    ensures { λ r. ⌜ r ≡ heldVerdict held number (now (path .entry)) columns rows ⌝ }
 {
-    let Looked::At(i) = aperture::look_up(table, number) else {
+    if !is_held(held, number) {
         return Verdict::Refused(limits::NO_APERTURE, 0);
-    };
+    }
     checks::check(path, columns, rows, 0)
 }

@@ -2,12 +2,14 @@
 use Prim.Native.Nat.{ℕ, suc, _+_, _-_, _≤_}
 use native.Mathlib.Numerals.{add-one}
 use native.Mathlib.Omega.{arith}
-use mathlib.Core.Path.{_≡_, sym, ap, _∙_}
+use mathlib.Core.Path.{_≡_, sym, ap, ap₂, _∙_}
 use mathlib.Core.List.{List}
 use lib.ListN.{length, getD}
 use lib.IntN.{ℤ}
 use denote.Ref.{now}
-use Rattle.drawing.specs.Strokes.{Drawing, drawingOf, rowZeroVerdict, strokeVerdict, firstFrom, firstRefused}
+use Rattle.drawing.specs.Settings.{heldCount}
+use Rattle.drawing.specs.Strokes.{Drawing, drawingOf, pathOf, strokeVerdict, firstFrom, firstRefused, heldVerdict}
+use Rattle.drawing.proofs.Held.{checked-alike}
 use Rattle.drawing.proofs.Taken.{no-stroke, stroke-taken, stroke-refused}
 use borrow.Author.Needs.{needs}
 use Rattle.drawing.proofs.first_refused.Statement.{statement}
@@ -19,18 +21,18 @@ record Left (d : Drawing) (columns rows k : ℕ) : Type 0 where
   same : firstFrom d columns rows k (length (d .apertures) - k) ≡ firstRefused d columns rows
 
 abbrev Inv-loop : tie.InvT-loop
-Inv-loop table apertures starts entries columns rows k₀ k = Left (drawingOf table apertures starts entries) columns rows k
+Inv-loop settings apertures starts entries columns rows held k₀ k = (held ≡ heldCount settings) × Left (drawingOf settings apertures starts entries) columns rows k
 
 abbrev μ-loop : tie.MeasureT-loop
-μ-loop table apertures starts entries columns rows k₀ k = length apertures - k
+μ-loop settings apertures starts entries columns rows held k₀ k = length apertures - k
 
 -- ---- the places
 -- in a turn: the drawing that the arguments are
 abbrev start : tie.At-loop Inv-loop μ-loop → tie.Start Inv-loop μ-loop
-start c = c .before .before .before
+start c = let known = c .before .before in known .before .before .before
 
 abbrev drawing : tie.At-loop Inv-loop μ-loop → Drawing
-drawing c = let a = start c .args in drawingOf (a .table) (now (a .apertures)) (now (a .starts)) (now (a .entries))
+drawing c = let a = start c .args in drawingOf (now (a .settings)) (now (a .apertures)) (now (a .starts)) (now (a .entries))
 
 -- the way back from where the stroke has been checked
 abbrev spanned : tie.After-stroke-check Inv-loop μ-loop → tie.After-span-of Inv-loop μ-loop
@@ -45,7 +47,11 @@ verdict : (c : tie.After-stroke-check Inv-loop μ-loop) → let t = turning c in
 verdict c =
     let t = turning c in
     let a = start t .args in
-    c .stroke-check .ensures ∙ ap (λ (p : List ℤ). rowZeroVerdict (a .table) (getD (now (a .apertures)) (t .loop .k) 0) p (a .columns) (a .rows)) (spanned c .span-of .ensures .path)
+    let number = getD (now (a .apertures)) (t .loop .k) 0 in
+    let path = pathOf (now (a .starts)) (now (a .entries)) (t .loop .k) in
+    c .stroke-check .ensures
+    ∙ ap₂ (λ (held : ℕ) (p : List ℤ). heldVerdict held number p (a .columns) (a .rows)) (t .loop .inv .0) (spanned c .span-of .ensures .path)
+    ∙ checked-alike (now (a .settings)) number path (a .columns) (a .rows)
 
 -- one stroke less is left
 fewer : (c : tie.In-loop Inv-loop μ-loop) → let t = c .before in let n = length (drawing t .apertures) in n - t .loop .k ≡ suc (n - (t .loop .k + 1))
@@ -54,14 +60,18 @@ fewer c = omega arith
 -- stroke k is the first of those that are left
 here : (c : tie.In-loop Inv-loop μ-loop) → let t = c .before in let a = start t .args in
     firstFrom (drawing t) (a .columns) (a .rows) (t .loop .k) (suc (length (drawing t .apertures) - (t .loop .k + 1))) ≡ firstRefused (drawing t) (a .columns) (a .rows)
-here c = let t = c .before in let a = start t .args in ap (firstFrom (drawing t) (a .columns) (a .rows) (t .loop .k)) (sym (fewer c)) ∙ t .loop .inv .same
+here c = let t = c .before in let a = start t .args in ap (firstFrom (drawing t) (a .columns) (a .rows) (t .loop .k)) (sym (fewer c)) ∙ t .loop .inv .1 .same
+
+held-count-requires : tie.Need-held-count-requires Inv-loop μ-loop
+held-count-requires c κs = search needs
 
 loop-holds : tie.Need-loop-holds Inv-loop μ-loop
 loop-holds c =
-    let a = c .before .before .args in
-    let d : Drawing = drawingOf (a .table) (now (a .apertures)) (now (a .starts)) (now (a .entries)) in
+    let known = c .before in
+    let a = known .before .before .before .args in
+    let d : Drawing = drawingOf (now (a .settings)) (now (a .apertures)) (now (a .starts)) (now (a .entries)) in
     let n : length (d .apertures) - 0 ≡ length (d .apertures) = omega arith in
-    record { few = omega arith; same = ap (firstFrom d (a .columns) (a .rows) 0) n }
+    (c .held-count .ensures, record { few = omega arith; same = ap (firstFrom d (a .columns) (a .rows) 0) n })
 
 span-of-requires : tie.Need-span-of-requires Inv-loop μ-loop
 span-of-requires c κs = omega arith
@@ -113,20 +123,23 @@ loop-again c =
     let k = c .before .before in
     let t = turning k in
     let a = start t .args in
-    let n = length (drawing t .apertures) in record {
-      few = omega (arith, t .loop .inv .few, spanned k .before .loop-test .taken);
-      same =
-          ap (λ (i : ℕ). firstFrom (drawing t) (a .columns) (a .rows) i (n - (t .loop .k + 1))) (add-one (t .loop .k))
-          ∙ sym (stroke-taken (drawing t) (a .columns) (a .rows) (t .loop .k) (n - (t .loop .k + 1)) (sym (verdict k) ∙ c .enum-told .given .1))
-          ∙ here (spanned k .before);
-    }
+    let n = length (drawing t .apertures) in (
+      t .loop .inv .0,
+      record {
+        few = omega (arith, t .loop .inv .1 .few, spanned k .before .loop-test .taken);
+        same =
+            ap (λ (i : ℕ). firstFrom (drawing t) (a .columns) (a .rows) i (n - (t .loop .k + 1))) (add-one (t .loop .k))
+            ∙ sym (stroke-taken (drawing t) (a .columns) (a .rows) (t .loop .k) (n - (t .loop .k + 1)) (sym (verdict k) ∙ c .enum-told .given .1))
+            ∙ here (spanned k .before);
+      },
+    )
 
 returns-2 : tie.Need-returns-2 Inv-loop μ-loop
 returns-2 c =
     let t = c .before in
     let a = start t .args in
     let none : 0 ≡ length (drawing t .apertures) - t .loop .k = omega arith in
-    no-stroke (drawing t) (a .columns) (a .rows) (t .loop .k) ∙ ap (firstFrom (drawing t) (a .columns) (a .rows) (t .loop .k)) none ∙ t .loop .inv .same
+    no-stroke (drawing t) (a .columns) (a .rows) (t .loop .k) ∙ ap (firstFrom (drawing t) (a .columns) (a .rows) (t .loop .k)) none ∙ t .loop .inv .1 .same
 
 pub first-refused-spec : {M : Type 1} → statement M
 first-refused-spec =
@@ -134,6 +147,7 @@ first-refused-spec =
     (tie.spec
     Inv-loop
     μ-loop
+    held-count-requires
     loop-holds
     span-of-requires
     mul-stroke-check
