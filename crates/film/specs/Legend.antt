@@ -3,7 +3,6 @@ use Prim.Native.Nat.{ℕ, _+_}
 use mathlib.Core.List.{List, [], _∷_, _++_, map}
 use lib.ListN.{length}
 use lib.IntN.{ℤ, pos, negℤ}
-use Rattle.drawing.specs.Settings.{tableOf}
 use Rattle.drawing.specs.Strokes.{Drawing}
 
 -- a stroke: its aperture, and x, y, x, y, .. of its points
@@ -177,4 +176,4 @@ strokes =
     []
 
 unfoldable pub legend : Drawing
-legend = record { table = tableOf settings .table; apertures = map (λ (s : Stroke). s .aperture) strokes; starts = startsFrom 0 strokes; entries = entriesOf strokes }
+legend = record { settings = settings; apertures = map (λ (s : Stroke). s .aperture) strokes; starts = startsFrom 0 strokes; entries = entriesOf strokes }
