@@ -56,7 +56,7 @@ pub both : {u v : Verdict} → u ≡ Passed → v ≡ Passed → (u then v) ≡ 
 both e f = rw (e, f)
 
 -- what is checked of row 0 is checked of every row
-pub every-row : (p : List ℤ) (columns rows j : ℕ) → j < rows → verdict p columns rows 0 ≡ Passed → verdict p columns rows j ≡ Passed
+every-row : (p : List ℤ) (columns rows j : ℕ) → j < rows → verdict p columns rows 0 ≡ Passed → verdict p columns rows j ≡ Passed
 every-row p columns rows j h e =
     let a = then-both (pathVerdict p) (rasterVerdict columns rows then rowVerdict rows 0 then coordinateVerdict p) e in
     let b = then-both (rasterVerdict columns rows) (rowVerdict rows 0 then coordinateVerdict p) (a .1) in
@@ -76,7 +76,7 @@ module _ (d : Drawing) (columns rows : ℕ) (e : filmVerdict d columns rows ≡ 
       let taken = all-taken d columns rows (strokes-told d columns rows) (then-both (strokesVerdict (firstRefused d columns rows)) (rasterVerdict columns rows) after-settings .0) in
       then-both (lookedVerdict (looked (tableIn d) (getD (d .apertures) k 0))) (verdict (pathOf (d .starts) (d .entries) k) columns rows 0) (takes-passed d columns rows k (taken k h))
 
-  pub held : (k : ℕ) → k < length (d .apertures) → isHeld (tableIn d) (getD (d .apertures) k 0) ≡ true
+  held : (k : ℕ) → k < length (d .apertures) → isHeld (tableIn d) (getD (d .apertures) k 0) ≡ true
   held k h = found-held (tableIn d) (getD (d .apertures) k 0) (parts k h .0)
 
   pub drawable-film : DrawableFilm d columns rows
@@ -115,7 +115,7 @@ band-passes d columns rows first n e =
     }
 
 -- a refusal of a band is never 0
-pub band-not-zero : (d : Drawing) (columns rows first n : ℕ) → NotZero (bandVerdict d columns rows first n)
+band-not-zero : (d : Drawing) (columns rows first n : ℕ) → NotZero (bandVerdict d columns rows first n)
 band-not-zero d columns rows first n =
     then-not-zero (filmVerdict d columns rows) _
     (then-not-zero (settingsVerdict (d .settings)) _ (settings-not-zero (d .settings))
@@ -129,7 +129,7 @@ band-gave d columns rows first n width b s =
     let r = bandPut d columns rows first n b in
     zero-gave (fileOffer (bandOf d columns rows first n) b) (bandVerdict d columns rows first n) (band-not-zero d columns rows first n) (r .answer) (r .list) refl (s .answer)
 
-pub done-passes : (d : Drawing) (columns rows first n width : ℕ) (b : List ℕ) → BandDone d columns rows first n width b → Passes d columns rows first n
+done-passes : (d : Drawing) (columns rows first n width : ℕ) (b : List ℕ) → BandDone d columns rows first n width b → Passes d columns rows first n
 done-passes d columns rows first n width b s = band-passes d columns rows first n (band-gave d columns rows first n width b s .passed)
 
 pub band-taken : BandTaken
