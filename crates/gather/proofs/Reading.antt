@@ -10,17 +10,14 @@ use borrow.Author.Tests.{eq-eqb, eqb-true}
 use lib.Dec.{eqb}
 use lib.ListN.{length, take, drop, length-drop}
 use lib.Seq.{take-all}
-use lib.IntN.{ℤ}
 use Rattle.aperture.specs.declared.Table.{Table}
 use Rattle.chunks.specs.Machine.{goes, gives, fails, Called, more, gave, failed, oneMore, Read, ahead, call, read}
-use Rattle.gerber.specs.declared.Given.the-variants as given·
 use Rattle.gerber.specs.Reader.{State, Stroke, Fault, Step, Answered, stepOf, answer, repeated, feeds}
 use Rattle.gerber_file.proofs.Keeps.{CallKeeps, call-keeps}
 use Rattle.gerber_file.proofs.Sessions.{stateOf, feeds-calls}
-use Rattle.gather.specs.declared.Gathering.{Gathering}
 use Rattle.gather.specs.declared.Handed.{Handed}
 use Rattle.gather.specs.declared.Handed.the-variants as handed·
-use Rattle.gather.specs.Gather.{handedOf, Notes, noted, allNoted, Gathered, notesOf, together, keptOf, gathered}
+use Rattle.gather.specs.Gather.{handedOf, Notes, noted, allNoted, Gathered, together, keptOf, gathered, goesOn}
 
 abbrev Call : Type 0
 Call = Called State Stroke Fault
@@ -119,33 +116,29 @@ module _ (t : Table) where
       go (fails e u) f = omega arith
 
   -- ---- what is gathered, by the test of the refusal
-  -- from what a call left on
-  abbrev pub from : Gathered → List ℕ → Gathered
-  from h l = gathered (h .gathering) t l (h .path) (h .apertures) (h .starts)
-
   abbrev whole : State → Notes → List ℕ → Bool → Gathered
   whole s n l b = cond b (reading s n l) (together s n)
 
-  pub from-on : (s : State) (n : Notes) (l : List ℕ) → s .reader .refusal ≡ 0 → from (together s n) l ≡ reading s n l
+  pub from-on : (s : State) (n : Notes) (l : List ℕ) → s .reader .refusal ≡ 0 → goesOn t (together s n) l ≡ reading s n l
   unfolding gathered
   from-on s n l h = ap (whole s n l) (eq-eqb (s .reader .refusal) 0 h)
 
-  pub from-off : (s : State) (n : Notes) (l : List ℕ) → eqb (s .reader .refusal) 0 ≡ false → from (together s n) l ≡ together s n
+  pub from-off : (s : State) (n : Notes) (l : List ℕ) → eqb (s .reader .refusal) 0 ≡ false → goesOn t (together s n) l ≡ together s n
   unfolding gathered
   from-off s n l h = ap (whole s n l) h
 
   -- no bytes
-  pub from-none : (s : State) (n : Notes) → from (together s n) [] ≡ together s n
+  pub from-none : (s : State) (n : Notes) → goesOn t (together s n) [] ≡ together s n
   from-none s n = go (eqb (s .reader .refusal) 0) refl
     where
-      go : (b : Bool) → eqb (s .reader .refusal) 0 ≡ b → from (together s n) [] ≡ together s n
+      go : (b : Bool) → eqb (s .reader .refusal) 0 ≡ b → goesOn t (together s n) [] ≡ together s n
       go true e = from-on s n [] (eqb-true (s .reader .refusal) 0 e) ∙ reading-none s n
       go false e = from-off s n [] e
 
   -- ---- a turn of the loop of `gather`: what is answered to the bytes l, and then the rest of them
   abbrev by-handed : Answered → Notes → List ℕ → Handed → Gathered
   by-handed a n l handed·.Nothing = together (stateOf a) n
-  by-handed a n l (handed·.Stroke x first) = from (together (stateOf a) (noted n (record { aperture = x; first = first; length = 0 }))) (drop (a .fed .used) l)
+  by-handed a n l (handed·.Stroke x first) = goesOn t (together (stateOf a) (noted n (record { aperture = x; first = first; length = 0 }))) (drop (a .fed .used) l)
 
   abbrev turned : Notes → List ℕ → Answered → Gathered
   turned n l a = by-handed a n l (handedOf (a .fed .given))
@@ -162,13 +155,13 @@ module _ (t : Table) where
 
   answer-turned : (n : Notes) (l : List ℕ) (c : Call) → CallKeeps c → calledOn n l c ≡ turned n l (answer (length l) c)
   answer-turned n l (more u) k = refl
-  answer-turned n l (gave e u m) k = sym (from-on u (noted n e) (drop m l) k) ∙ ap (λ (z : Notes). from (together u z) (drop m l)) (any-length n e)
+  answer-turned n l (gave e u m) k = sym (from-on u (noted n e) (drop m l) k) ∙ ap (λ (z : Notes). goesOn t (together u z) (drop m l)) (any-length n e)
   answer-turned n l (failed f u) k = refl
 
-  turn : (s : State) (n : Notes) (l : List ℕ) → from (together s n) l ≡ turned n l (feeds (s .reader) t l (s .path))
+  turn : (s : State) (n : Notes) (l : List ℕ) → goesOn t (together s n) l ≡ turned n l (feeds (s .reader) t l (s .path))
   turn s n l = go (eqb (s .reader .refusal) 0) refl
     where
-      go : (b : Bool) → eqb (s .reader .refusal) 0 ≡ b → from (together s n) l ≡ turned n l (feeds (s .reader) t l (s .path))
+      go : (b : Bool) → eqb (s .reader .refusal) 0 ≡ b → goesOn t (together s n) l ≡ turned n l (feeds (s .reader) t l (s .path))
       go true e =
           let h = eqb-true (s .reader .refusal) 0 e in
           from-on s n l h ∙ reading-calls l s n ∙ answer-turned n l (call (stepOf t) s l) (call-keeps t s l h) ∙ sym (ap (turned n l) (feeds-calls (s .reader) t l (s .path) h))
@@ -182,12 +175,12 @@ module _ (t : Table) where
   -- a is what `gerber::feed` answers
   module _ (s : State) (n : Notes) (l : List ℕ) {a : Answered} (f : a ≡ feeds (s .reader) t l (s .path)) where
     -- nothing is given: the bytes are used up, or there is a refusal
-    pub turn-ends : handedOf (a .fed .given) ≡ handed·.Nothing → together (stateOf a) n ≡ from (together s n) l
+    pub turn-ends : handedOf (a .fed .given) ≡ handed·.Nothing → together (stateOf a) n ≡ goesOn t (together s n) l
     turn-ends e = sym (turn s n l ∙ sym (ap (turned n l) f) ∙ ap (by-handed a n l) e)
 
     module _ (x first : ℕ) (e : handedOf (a .fed .given) ≡ handed·.Stroke x first) where
       -- a stroke is given, and noted: the rest is read again
-      pub turn-goes-on : from (together (stateOf a) (noted n (record { aperture = x; first = first; length = 0 }))) (drop (a .fed .used) l) ≡ from (together s n) l
+      pub turn-goes-on : goesOn t (together (stateOf a) (noted n (record { aperture = x; first = first; length = 0 }))) (drop (a .fed .used) l) ≡ goesOn t (together s n) l
       turn-goes-on = sym (turn s n l ∙ sym (ap (turned n l) f) ∙ ap (by-handed a n l) e)
 
       -- with a byte less at least

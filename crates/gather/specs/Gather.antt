@@ -19,7 +19,7 @@ use Rattle.gather.specs.declared.Handed.the-variants as handed·
 use Rattle.gather.specs.declared.Finished.{Finished}
 use Rattle.gather.specs.declared.Finished.the-variants.{Done, Refused}
 
--- before the first byte nothing has been noted
+-- before the first byte: nothing has been noted
 abbrev pub begun : ℕ → Gathering
 begun unit = record { reader = started unit; count = 0; lost = false }
 
@@ -62,22 +62,28 @@ pub record Gathered : Type 0 where
   pub apertures : List ℕ
   pub starts : List ℕ
 
+-- the notes of a gathering and the lists that it is lent
 abbrev pub notesOf : Gathering → List ℕ → List ℕ → Notes
 notesOf g apertures starts = record { apertures = apertures; starts = starts; count = g .count; lost = g .lost }
 
+-- and back: a reader and its path, with notes
 abbrev pub together : State → Notes → Gathered
 together s n = record { gathering = record { reader = s .reader; count = n .count; lost = n .lost }; path = s .path; apertures = n .apertures; starts = n .starts }
 
--- what reading all symbols gives, its strokes noted
+-- what reading all bytes gives, its strokes noted
 abbrev pub keptOf : Notes → chunks·.Read State Stroke Fault → Gathered
 keptOf n r = together (r .state) (allNoted n (r .given))
 
--- after a refusal nothing is read
+-- a chunk: all its bytes are read, up to a refusal; after one nothing is read
 unfoldable pub gathered : Gathering → Table → List ℕ → List ℤ → List ℕ → List ℕ → Gathered
 gathered g t chunk path apertures starts =
     let s : State = record { reader = g .reader; path = path } in
     let n = notesOf g apertures starts in
     cond (eqb (g .reader .refusal) 0) (keptOf n (chunks·.read (stepOf t) 0 s chunk)) (together s n)
+
+-- one call more, with what the call before left
+abbrev pub goesOn : Table → Gathered → List ℕ → Gathered
+goesOn t h chunk = gathered (h .gathering) t chunk (h .path) (h .apertures) (h .starts)
 
 -- ---- the end of the file
 -- the answer, and the list that was lent
@@ -107,5 +113,6 @@ abbrev pub finishingBy : Verdict → Gathering → List ℕ → Ended
 finishingBy verdict·.Passed g starts = closed g starts
 finishingBy (verdict·.Refused n place) g starts = record { answer = Refused n place; starts = starts }
 
+-- the end of the file
 unfoldable pub finishing : Gathering → List ℕ → Ended
 finishing g starts = finishingBy (verdictOf (finished (g .reader) .given)) g starts

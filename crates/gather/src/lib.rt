@@ -26,8 +26,8 @@ pub struct Gathering {
     pub lost: bool,
 }
 
-// Stroke: its aperture, and its first entry in the path.
-pub enum Handed {
+// What is noted of a call's answer. Stroke: its aperture, and its first entry in the path.
+enum Handed {
     Nothing,
     Stroke(u64, usize),
 }
@@ -49,7 +49,8 @@ pub fn start(unit: u64) -> Gathering
     }
 }
 
-// Reads a chunk, behind each stroke its rest again, up to its end or to a refusal, which the reader keeps.
+// Reads a chunk, behind each stroke its rest again, up to its end or to a refusal, which the reader keeps. A
+// reader that holds a refusal repeats it, and nothing changes.
 pub fn gather(
     g: Gathering,
     table: Table,
@@ -68,6 +69,7 @@ pub fn gather(
         let fed = gerber::feed(reader, table, &chunk[i..], path);
         let now = fed.reader;
         let given = fed.given;
+        let used = fed.used;
         let after = with_reader(gathering, now);
         let handed = handed_of(given);
         let Handed::Stroke(aperture, first) = handed else {
@@ -75,7 +77,7 @@ pub fn gather(
         };
         let next = note(after, aperture, first, apertures, starts);
         gathering = next;
-        i += fed.used;
+        i += used;
     }
     gathering
 }
@@ -92,6 +94,7 @@ fn handed_of(given: Given) -> Handed
     }
 }
 
+// The reader has read on.
 fn with_reader(g: Gathering, reader: Reader) -> Gathering
     ensures { λ r. ⌜ r ≡ record { reader = reader; count = g .count; lost = g .lost } ⌝ }
 {
@@ -102,7 +105,8 @@ fn with_reader(g: Gathering, reader: Reader) -> Gathering
     }
 }
 
-// Puts a stroke's aperture and its first entry behind those noted before, where both lists have a place.
+// Puts a stroke's aperture and its first entry behind those noted before, where both lists have a place. The
+// path and the stroke's length are not needed for that: the contract holds for every path p and length n.
 fn note(
     g: Gathering,
     aperture: u64,

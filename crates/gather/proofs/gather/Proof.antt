@@ -10,8 +10,8 @@ use Rattle.gerber.specs.Reader.{State, Stroke, Answered, feeds}
 use Rattle.gerber_file.proofs.Sessions.{stateOf}
 use Rattle.gather.specs.declared.Gathering.{Gathering}
 use Rattle.gather.specs.declared.Handed.the-variants as handed·
-use Rattle.gather.specs.Gather.{handedOf, Notes, noted, Gathered, notesOf, together}
-use Rattle.gather.proofs.Reading.{from, rest-whole, from-none, turn-ends, turn-goes-on, turn-uses}
+use Rattle.gather.specs.Gather.{handedOf, Notes, noted, Gathered, notesOf, together, goesOn}
+use Rattle.gather.proofs.Reading.{rest-whole, from-none, turn-ends, turn-goes-on, turn-uses}
 use borrow.Author.Needs.{needs}
 use Rattle.gather.proofs.gather.Statement.{statement}
 use Rattle.gather.proofs.gather.Tie as tie
@@ -22,7 +22,7 @@ record Left (t : Table) (chunk : List ℕ) (was now : Gathered) (i : ℕ) : Type
   path : length (now .path) ≡ length (was .path)
   apertures : length (now .apertures) ≡ length (was .apertures)
   starts : length (now .starts) ≡ length (was .starts)
-  same : from t now (drop i chunk) ≡ from t was chunk
+  same : goesOn t now (drop i chunk) ≡ goesOn t was chunk
 
 abbrev Inv-loop : tie.InvT-loop
 Inv-loop table chunk path₀ apertures₀ starts₀ gathering₀ i₀ path apertures starts gathering i =
@@ -158,16 +158,16 @@ note-requires : tie.Need-note-requires Inv-loop μ-loop
 note-requires c κs = search needs
 
 add-i : tie.Need-add-i Inv-loop μ-loop
-add-i c = let d = c .before .before .before .before .before in
+add-i c = let d = c .before .before .before .before in
     let s = start (turning (feeding (handing d))) in
     record { fits = omega (arith, within d .1, small s) }
 
 loop-less : tie.Need-loop-less Inv-loop μ-loop
-loop-less c = let w = within (c .before .before .before .before .before) in omega (arith, w .0, w .1)
+loop-less c = let w = within (c .before .before .before .before) in omega (arith, w .0, w .1)
 
 loop-again : tie.Need-loop-again Inv-loop μ-loop
 loop-again c =
-    let d = c .before .before .before .before .before in
+    let d = c .before .before .before .before in
     let f = feeding (handing d) in
     let t = turning f in
     let a = start t .args in
@@ -177,8 +177,8 @@ loop-again c =
       apertures = d .note .kept .1 .1 .1 .0 ∙ t .loop .inv .apertures;
       starts = d .note .kept .1 .1 .1 .1 .0 ∙ t .loop .inv .starts;
       same =
-          ap (λ (z : Gathered). from (a .table) z (drop (t .loop .i + f .feed .result .used) (a .chunk .now))) (is-noted d) ∙
-          sym (ap (from (a .table) (together (stateOf (answered f)) (noted (notes t) (given d)))) (drop-drop (f .feed .result .used) (t .loop .i) (a .chunk .now))) ∙
+          ap (λ (z : Gathered). goesOn (a .table) z (drop (t .loop .i + f .feed .result .used) (a .chunk .now))) (is-noted d) ∙
+          sym (ap (goesOn (a .table) (together (stateOf (answered f)) (noted (notes t) (given d)))) (drop-drop (f .feed .result .used) (t .loop .i) (a .chunk .now))) ∙
           turn-goes-on (a .table) (state t) (notes t) (left t) (fed f) (given d .aperture) (given d .first) (is-given d) ∙ t .loop .inv .same;
     }
 
@@ -196,7 +196,7 @@ returns-2 c =
     let t = c .before in
     let a = start t .args in
     sym (from-none (a .table) (state t) (notes t)) ∙
-    ap (from (a .table) (together (state t) (notes t))) (sym (drop-of-length-le (a .chunk .now) {i = t .loop .i} (omega arith))) ∙ t .loop .inv .same
+    ap (goesOn (a .table) (together (state t) (notes t))) (sym (drop-of-length-le (a .chunk .now) {i = t .loop .i} (omega arith))) ∙ t .loop .inv .same
 
 pub gather-spec : {M : Type 1} → statement M
 gather-spec =
