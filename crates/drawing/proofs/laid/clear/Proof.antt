@@ -1,9 +1,9 @@
 -- Each turn makes one byte more 0.
-use Prim.Native.Nat.{ℕ, _+_, _-_, _≤_, _<_}
+use Prim.Native.Nat.{ℕ, _-_, _≤_, _<_}
 use native.Mathlib.Numerals.{add-one}
 use native.Mathlib.Omega.{arith}
 use mathlib.Core.Path.{_≡_, refl, sym, ap, _∙_}
-use lib.ListN.{length, take, set, replicate, length-set}
+use lib.ListN.{length, take, replicate}
 use lib.Seq.{take-suc-set, take-all}
 use denote.Ref.{now}
 use Rattle.drawing.proofs.Rows.{replicate-snoc}
