@@ -21,6 +21,7 @@ mod settings;
 mod strokes;
 
 pub use settings::settings_check;
+pub use settings::table;
 
 // Whether a row call takes every stroke; or the index of the first that it refuses, with document
 // 01's number and place.

@@ -1,11 +1,13 @@
-// The settings of a drawing, three numbers each: the first is that of aperture 10. No table is made
-// of them: a setting is looked up where it is drawn with.
+// The settings of a drawing, three numbers each: the first is that of aperture 10. Drawing makes no
+// table of them: a setting is looked up where it is drawn with. `table` makes one for the reader of a
+// file, which asks whether an aperture is defined.
+use aperture::Table;
 use limits::Verdict;
 use setting::Checked;
 ghost use mathlib.Core.Path.{_≡_};
 ghost use Prim.Native.Nat.{_+_, _*_, _<_, _^_};
 ghost use lib.ListN.{getD};
-ghost use Rattle.drawing.specs.Settings.{settingCount, settingsVerdict, settingVerdict, heldCount, isOneOf};
+ghost use Rattle.drawing.specs.Settings.{settingCount, settingsVerdict, settingVerdict, tableOf, heldCount, isOneOf};
 
 // The number at index k; one that is missing counts as 0.
 pub fn number(settings: &[u64], k: usize) -> u64
@@ -57,6 +59,32 @@ pub fn settings_check(settings: &[u64]) -> Verdict
         i += 1;
     }
     Verdict::Passed
+}
+
+// The table with the settings as apertures 10, 11, .., for one who reads strokes from a file. Where a
+// setting is refused no aperture is defined in it.
+pub fn table(settings: &[u64]) -> Table
+    ensures { λ r. ⌜ r ≡ tableOf (now (settings .entry)) .table ⌝ }
+{
+    let n = count_of(settings);
+    let mut t = aperture::none();
+    let mut i = 0;
+    while i < n {
+        let at = 3 * i;
+        let changed = aperture::define(
+            t,
+            limits::APERTURE_MIN + i as u64,
+            number(settings, at),
+            number(settings, at + 1),
+            number(settings, at + 2),
+        );
+        if changed.refusal != limits::DONE {
+            return aperture::none();
+        }
+        t = changed.table;
+        i += 1;
+    }
+    t
 }
 
 // How many apertures there are, from 10 on: none where a setting is refused.
