@@ -1,0 +1,2 @@
+-- Reading: a number read byte by byte.
+pub mod Reading
