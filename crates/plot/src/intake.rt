@@ -1,5 +1,4 @@
 // The Gerber file on standard input, read in chunks to its end or to a refusal, its strokes gathered.
-use crate::input;
 use crate::marks;
 use crate::marks::Marks;
 use crate::refusal;
@@ -65,7 +64,7 @@ fn read_chunk(
     apertures: &mut [u64],
     starts: &mut [usize],
 ) -> Turn {
-    let got = input::read(buf);
+    let got = inputs::fill(buf, b"plot: standard input");
     let count = got.count;
     if got.is_failed {
         return failed(turn);

@@ -7,14 +7,13 @@
 // and nothing of it is refused. Whatever else there is to tell stands on standard error, and then the film
 // is missing or not whole: a program has no exit status.
 //
-// The way of the data: the words are read (words), then the file in chunks (intake, with input and marks),
+// The way of the data: the words are read (words), then the file in chunks (intake, with marks),
 // whose strokes are kept in lent lists; and of these the film is drawn band by band (output).
 use intake::Intake;
 use limits::Verdict;
 ghost use Prim.Native.Nat.{_≤_};
 ghost use lib.ListN.{length};
 
-mod input;
 mod intake;
 mod marks;
 mod output;

@@ -13,15 +13,13 @@
 //
 // What is no answer is told on standard error: words of another form, a read or a write that failed, and
 // answers that no reader gives, as a refusal that the next call does not repeat.
-mod input;
 mod output;
 mod session;
 mod words;
 
 use aperture::Table;
-use words::Number;
+use inputs::Number;
 use words::read_list;
-use words::read_number;
 ghost use Prim.Native.Nat.{_≤_};
 ghost use Rattle.try_gerber.specs.Words.{roomMax};
 
@@ -120,7 +118,7 @@ fn number(i: usize) -> Number {
     if os::errno() != 0 {
         return Number::Wrong;
     }
-    read_number(&word[..n])
+    inputs::read_number(&word[..n])
 }
 
 fn main() {

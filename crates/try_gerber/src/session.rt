@@ -1,5 +1,4 @@
 // The calls: each chunk is lent, and behind a stroke the rest of it again.
-use crate::input;
 use crate::output;
 use crate::output::Page;
 use aperture::Table;
@@ -227,7 +226,7 @@ struct Part {
 
 // Lends so many of the file's next bytes, or as many as there are.
 fn lend_part(t: Table, turn: Turn, buf: &mut [u8], path: &mut [i32], page: &mut [u8]) -> Part {
-    let got = input::read(buf);
+    let got = inputs::fill(buf, b"try_gerber: standard input");
     let count = got.count;
     if got.is_failed {
         return Part {

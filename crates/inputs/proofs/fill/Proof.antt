@@ -4,23 +4,20 @@ use native.Mathlib.Omega.{arith}
 use mathlib.Core.Path.{_≡_}
 use lib.ListN.{length, length-take}
 use borrow.Author.Needs.{needs}
-use Rattle.try_gerber.proofs.input.read.Statement.{statement}
-use Rattle.try_gerber.proofs.input.read.Tie as tie
+use Rattle.inputs.proofs.fill.Statement.{statement}
+use Rattle.inputs.proofs.fill.Tie as tie
 
 abbrev Inv-loop : tie.InvT-loop
-Inv-loop buf₀ done₀ t4 buf done = (length buf ≡ length buf₀) × (done ≤ length buf)
+Inv-loop buf₀ told done₀ buf done = (length buf ≡ length buf₀) × (done ≤ length buf)
 
 abbrev μ-loop : tie.MeasureT-loop
-μ-loop buf₀ done₀ t4 buf done = length buf - done
+μ-loop buf₀ told done₀ buf done = length buf - done
 
 loop-holds : tie.Need-loop-holds Inv-loop μ-loop
 loop-holds c = search needs
 
 read-some-requires : tie.Need-read-some-requires Inv-loop μ-loop
 read-some-requires c κs = search needs
-
-slice-aggregate-fail : tie.Need-slice-aggregate-fail Inv-loop μ-loop
-slice-aggregate-fail c = search needs
 
 fail-requires : tie.Need-fail-requires Inv-loop μ-loop
 fail-requires c κs = search needs
@@ -52,15 +49,14 @@ same-length-3 c = search needs
 returns-3 : tie.Need-returns-3 Inv-loop μ-loop
 returns-3 c = let k = c .before .before .before .before .before in (omega (arith, k .read-some .kept), simp length-take (omega arith))
 
-pub read-spec : {M : Type 1} → statement M
-read-spec =
+pub fill-spec : {M : Type 1} → statement M
+fill-spec =
     tie.close
     (tie.spec
     Inv-loop
     μ-loop
     loop-holds
     read-some-requires
-    slice-aggregate-fail
     fail-requires
     same-length
     returns

@@ -5,8 +5,8 @@ use mathlib.Core.Path.{_≡_, refl, sym, ap, _∙_}
 use mathlib.Core.List.{List, [], _∷_}
 use lib.ListN.{length, getD, drop, drop-of-length-le}
 use lib.Seq.{drop-cons}
-use Rattle.try_gerber.specs.declared.words.Number.{Number}
-use Rattle.try_gerber.specs.Words.{grown, readOn}
+use Rattle.inputs.specs.declared.Number.{Number}
+use Rattle.inputs.specs.Number.{grown, readOn}
 
 pub read-none : (m : Number) → readOn m [] ≡ m
 unfolding readOn

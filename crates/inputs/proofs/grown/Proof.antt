@@ -1,11 +1,11 @@
 -- Each form in its arm.
 use Prim.Native.Nat.{ℕ}
 use mathlib.Core.Path.{_≡_, sym, ap, _∙_}
-use Rattle.plot.specs.declared.words.Number.{Number}
-use Rattle.plot.specs.Words.{grown}
+use Rattle.inputs.specs.declared.Number.{Number}
+use Rattle.inputs.specs.Number.{grown}
 use borrow.Author.Needs.{needs}
-use Rattle.plot.proofs.words.grown.Statement.{statement}
-use Rattle.plot.proofs.words.grown.Tie as tie
+use Rattle.inputs.proofs.grown.Statement.{statement}
+use Rattle.inputs.proofs.grown.Tie as tie
 
 -- of a number that is m: what the definition says of it
 of : {m n : Number} (b : ℕ) → m ≡ n → grown n b ≡ grown m b

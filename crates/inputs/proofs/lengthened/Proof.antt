@@ -2,9 +2,9 @@
 use native.Mathlib.Omega.{arith}
 use borrow.Author.Tests.{le-leb, lt-leb}
 use borrow.Author.Needs.{needs}
-use Rattle.try_gerber.specs.Words.{longer, greatest}
-use Rattle.try_gerber.proofs.words.lengthened.Statement.{statement}
-use Rattle.try_gerber.proofs.words.lengthened.Tie as tie
+use Rattle.inputs.specs.Number.{longer, greatest}
+use Rattle.inputs.proofs.lengthened.Statement.{statement}
+use Rattle.inputs.proofs.lengthened.Tie as tie
 
 returns : tie.Need-returns
 returns c = simp (lt-leb 48 _ (c .if1 .taken))

@@ -3,8 +3,8 @@ use Prim.Native.Nat.{ℕ, _+_, _*_, _-_}
 use mathlib.Core.Bool.{Bool, true, false, _&&_}
 use mathlib.Core.List.{List, [], _∷_}
 use lib.Dec.{leb}
-use Rattle.plot.specs.declared.words.Number.{Number}
-use Rattle.plot.specs.declared.words.Number.the-variants.{Nothing, Value, Wrong}
+use Rattle.inputs.specs.declared.Number.{Number}
+use Rattle.inputs.specs.declared.Number.the-variants.{Nothing, Value, Wrong}
 
 abbrev pub greatest : ℕ
 greatest = 18446744073709551615

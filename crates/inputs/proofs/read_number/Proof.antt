@@ -5,10 +5,10 @@ use mathlib.Core.Path.{_≡_, refl, _∙_}
 use mathlib.Core.List.{List}
 use lib.ListN.{length, drop}
 use borrow.Author.Needs.{needs}
-use Rattle.plot.specs.Words.{readOn}
-use Rattle.plot.proofs.Reading.{past, one}
-use Rattle.plot.proofs.words.read_number.Statement.{statement}
-use Rattle.plot.proofs.words.read_number.Tie as tie
+use Rattle.inputs.specs.Number.{readOn}
+use Rattle.inputs.proofs.Reading.{past, one}
+use Rattle.inputs.proofs.read_number.Statement.{statement}
+use Rattle.inputs.proofs.read_number.Tie as tie
 
 abbrev Inv-loop : tie.InvT-loop
 Inv-loop text number₀ i₀ number i = readOn number (drop i text) ≡ readOn number₀ text

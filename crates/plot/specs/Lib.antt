@@ -1,2 +1,0 @@
--- What the words of the command line say.
-pub mod Words

@@ -1,2 +1,0 @@
--- Reading: a number read byte by byte.
-pub mod Reading
