@@ -23,11 +23,11 @@ use Rattle.gerber_file.proofs.Sim.{Sim}
 use Rattle.gerber_file.proofs.Bytes.{Matches, bytes-alike}
 
 -- ---- before the first byte
-started-fresh : (unit : ℕ) → isUnit unit ≡ true → started unit ≡ fresh unit
+pub started-fresh : (unit : ℕ) → isUnit unit ≡ true → started unit ≡ fresh unit
 unfolding started
 started-fresh unit h = ap (λ (b : Bool). cond b (fresh unit) (latched (fresh unit) (number setting) 0)) h
 
-abbrev start : ℕ → List ℤ → State
+abbrev pub start : ℕ → List ℤ → State
 start unit p = record { reader = fresh unit; path = p }
 
 -- nothing is drawn in either reading
@@ -38,7 +38,7 @@ blank-sim unit p =
 
 -- ---- the whole file
 -- reading all bytes, against the second reading of any account of what is heard
-all-alike : (t : Table) (unit : ℕ) (p : List ℤ) (l : List ℕ) (h : Heard) → length l < 18446744073709551616 → heard begun l ≡ h →
+pub all-alike : (t : Table) (unit : ℕ) (p : List ℤ) (l : List ℕ) (h : Heard) → length l < 18446744073709551616 → heard begun l ≡ h →
     Matches [] (chunks·.read (stepOf t) 0 (start unit p) l) (drawn unit (isHeld t) (length p) blank (h .said) (h .bad))
 all-alike t unit p l h lt e =
     subst (λ (z : Heard). Matches [] (chunks·.read (stepOf t) 0 (start unit p) l) (drawn unit (isHeld t) (length p) blank (z .said) (z .bad))) e

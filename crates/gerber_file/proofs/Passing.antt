@@ -178,11 +178,11 @@ drawn-pass unit space t cs bad = sound-pass t unit space blank cs bad (record { 
 
 -- ---- and the strokes given pass where the path holds their points
 -- by a list
-abbrev AllOf : {A : Type 0} (P : A → Type 0) → List A → Type 0
+abbrev pub AllOf : {A : Type 0} (P : A → Type 0) → List A → Type 0
 AllOf P [] = Unit
 AllOf P (a ∷ l) = P a × All P l
 
-opened : {A : Type 0} {P : A → Type 0} {l : List A} → All P l → AllOf P l
+pub opened : {A : Type 0} {P : A → Type 0} {l : List A} → All P l → AllOf P l
 opened no-more = tt
 opened (one-more p ps) = (p, ps)
 

@@ -1,0 +1,13 @@
+-- What is proved of a whole file as a drawing, in this order.
+--   Noted      what the lists hold where every stroke has a place
+--   Ends       the open stroke begins where the last stroke given ends
+--   Long       a stroke has two points or more
+--   Paths      the path of each stroke, from where they start
+--   Whole      a file's lists: no stroke is lost, and they hold what W4's sentences give
+--   Taken      no stroke of them is refused
+pub mod Noted
+pub mod Ends
+pub mod Long
+pub mod Paths
+pub mod Whole
+pub mod Taken

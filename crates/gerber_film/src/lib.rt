@@ -1,0 +1,1 @@
+// A whole Gerber file as a drawing: definitions and theorems, no code.
