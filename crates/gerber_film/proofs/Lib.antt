@@ -4,10 +4,12 @@
 --   Long       a stroke has two points or more
 --   Paths      the path of each stroke, from where they start
 --   Whole      a file's lists: no stroke is lost, and they hold what W4's sentences give
+--   Answer     the answer at the file's end
 --   Taken      no stroke of them is refused
 pub mod Noted
 pub mod Ends
 pub mod Long
 pub mod Paths
 pub mod Whole
+pub mod Answer
 pub mod Taken

@@ -23,7 +23,7 @@ use Rattle.language.proofs.Theorems.{each-file, heard-exactly}
 use Rattle.chunks.specs.Machine as chunks·
 use Rattle.gerber.specs.declared.Reader.{Reader}
 use Rattle.gerber.specs.Reader.{stepOf, finished}
-use Rattle.gerber_file.specs.Strokes.{Drawn, blank, drawn, flat}
+use Rattle.gerber_file.specs.Strokes.{Drawn, flat}
 use Rattle.gerber_file.specs.Theorems.{allHanded, All}
 use Rattle.gerber_file.proofs.Chunking.{AllRead}
 use Rattle.gerber_file.proofs.Bytes.{Matches}
@@ -33,7 +33,7 @@ use Rattle.gather.specs.declared.Finished.the-variants.{Done, Refused}
 use Rattle.gather.specs.Gather.{Notes, allNoted, Gathered, keptOf, gathered, Ended, isComplete, closed, verdictOf, finishingBy, finishing}
 use Rattle.gather.proofs.Answers.{complete}
 use Rattle.gather.proofs.Lengths.{read-as-long}
-use Rattle.gerber_film.specs.File.{Asked, endOf, drawnFrom, left, strokesOfFile, noStroke}
+use Rattle.gerber_film.specs.File.{Asked, endOf, drawnFrom, left, sentences, noStroke}
 use Rattle.gerber_film.specs.Theorems.{NoneLost, NothingLost, SameStrokes, FileStrokes}
 use Rattle.gerber_film.proofs.Noted.{aperturesOf, firstsOf, AllStand, all-stand}
 use Rattle.gerber_film.proofs.Ends.{lastEnd, read-ends}
@@ -75,24 +75,24 @@ module _ (unit : ℕ) (settings l : List ℕ) (p : List ℤ) (a s : List ℕ) (h
   t = tableOf settings .table
 
   -- what reading all its bytes gives, and its strokes noted in lists without any
-  abbrev all : AllRead
+  abbrev pub all : AllRead
   all = chunks·.read (stepOf t) 0 (start unit p) l
 
-  abbrev none-noted : Notes
+  abbrev pub none-noted : Notes
   none-noted = record { apertures = a; starts = s; count = 0; lost = false }
 
   abbrev found : Notes
   found = allNoted none-noted (all .given)
 
-  left-is : left unit settings l p a s ≡ keptOf none-noted all
+  pub left-is : left unit settings l p a s ≡ keptOf none-noted all
   unfolding gathered
   left-is = ap (λ (z : Reader). gathered (record { reader = z; count = 0; lost = false }) t l p a s) (started-fresh unit (h .is-unit))
 
   module _ (fs : List Placed) (bad : Option ℕ) (reads : Reads first 0 l fs bad) where
     abbrev ds : List Drawn
-    ds = strokesOfFile unit settings l p a s fs bad
+    ds = sentences unit settings l p a s fs bad .strokes
 
-    matches : Matches [] all (drawn unit (isHeld t) (length p) blank (said (pos 0) (pos 0) fs) bad)
+    pub matches : Matches [] all (sentences unit settings l p a s fs bad)
     matches = all-alike t unit p l _ (h .size) (heard-exactly l fs bad (h .size) reads)
 
     long : All Long ds
@@ -111,7 +111,7 @@ module _ (unit : ℕ) (settings l : List ℕ) (p : List ℤ) (a s : List ℕ) (h
     place-left : found .count < length (found .starts)
     place-left = omega (arith, stands .count, stands .starts-length, same-count, room, h .starts)
 
-    none-lost : NoneLost (keptOf none-noted all)
+    pub none-lost : NoneLost (keptOf none-noted all)
     none-lost = record { kept = stands .lost; done = all-done (keptOf none-noted all .gathering) (found .starts) (stands .lost) place-left }
 
     -- ---- the lists hold W4's strokes

@@ -11,7 +11,7 @@ use Rattle.drawing.specs.Settings.{tableOf}
 use Rattle.drawing.specs.Strokes as drawing·
 use Rattle.units.specs.Units.{isUnit}
 use Rattle.language.specs.Grammar.{Placed, said}
-use Rattle.gerber_file.specs.Strokes.{Drawn, blank, drawn}
+use Rattle.gerber_file.specs.Strokes.{Drawn, Drawing, blank, drawn}
 use Rattle.gather.specs.declared.Finished.{Finished}
 use Rattle.gather.specs.Gather.{begun, Gathered, gathered, Ended, finishing}
 
@@ -44,9 +44,9 @@ module _ (unit : ℕ) (settings l : List ℕ) (p : List ℤ) (a s : List ℕ) wh
   abbrev pub drawingOfFile : drawing·.Drawing
   drawingOfFile = drawnFrom settings left
 
-  -- the strokes that W4's sentences give, where the file's reading is this (language, Reads); as ExactStrokes (gerber_file) has them
-  abbrev pub strokesOfFile : List Placed → Option ℕ → List Drawn
-  strokesOfFile fs bad = drawn unit (isHeld (tableOf settings .table)) (length p) blank (said (pos 0) (pos 0) fs) bad .strokes
+  -- what W4's sentences give, where the file's reading is this (language, Reads); as ExactStrokes (gerber_file) has it
+  abbrev pub sentences : List Placed → Option ℕ → Drawing
+  sentences fs bad = drawn unit (isHeld (tableOf settings .table)) (length p) blank (said (pos 0) (pos 0) fs) bad
 
 -- what stands at an index that no stroke has
 abbrev pub noStroke : Drawn

@@ -1,5 +1,5 @@
 -- In this order.
 --   File       a file read whole into lent lists, and the drawing of its strokes
---   Theorems   no stroke is lost, the strokes are W4's, and none of them is refused
+--   Theorems   no stroke is lost, the answer and the strokes are W4's, and none of them is refused
 pub mod File
 pub mod Theorems

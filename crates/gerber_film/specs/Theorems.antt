@@ -7,7 +7,7 @@ use Prim.Native.Nat.{ℕ, _≤_, _<_}
 use mathlib.Core.Path.{_≡_}
 use mathlib.Core.Bool.{false}
 use mathlib.Core.List.{List}
-use mathlib.Core.Option.{Option}
+use mathlib.Core.Option.{Option, none, some}
 use lib.ListN.{length, getD}
 use lib.IntN.{ℤ}
 use Rattle.limits.specs.declared.Verdict.the-variants as verdict·
@@ -15,11 +15,12 @@ use Rattle.drawing.specs.declared.StrokeVerdict.the-variants.{AllTaken}
 use Rattle.drawing.specs.Settings.{settingsVerdict}
 use Rattle.drawing.specs.Strokes.{Drawing, pathOf, firstRefused, filmVerdict}
 use Rattle.language.specs.Grammar.{first, Placed, Reads}
-use Rattle.gerber.specs.Reader.{finished}
+use Rattle.gerber.specs.Reader.{Fault, finished}
 use Rattle.gerber_file.specs.Strokes.{Drawn, flat}
-use Rattle.gather.specs.declared.Finished.the-variants.{Done}
+use Rattle.gather.specs.declared.Finished.{Finished}
+use Rattle.gather.specs.declared.Finished.the-variants.{Done, Refused}
 use Rattle.gather.specs.Gather.{Gathered, verdictOf}
-use Rattle.gerber_film.specs.File.{Asked, endOf, left, answerOfFile, drawingOfFile, strokesOfFile, noStroke}
+use Rattle.gerber_film.specs.File.{Asked, endOf, left, answerOfFile, drawingOfFile, sentences, noStroke}
 
 -- ---- with such room no stroke is lost, whatever the file: the end of the file is well where the reader has nothing against it, and so 7 is only the reader's own,
 -- for entries
@@ -30,6 +31,15 @@ pub record NoneLost (g : Gathered) : Type 0 where
 abbrev pub NothingLost : Type 0
 NothingLost = (unit : ℕ) (settings l : List ℕ) (p : List ℤ) (a s : List ℕ) → Asked unit l p a s → NoneLost (left unit settings l p a s)
 
+-- ---- the answer at the end of the file is what W4's sentences refuse it with; Done, where they do not
+abbrev pub answerFor : Option Fault → Finished
+answerFor none = Done
+answerFor (some f) = Refused (f .number) (f .place)
+
+abbrev pub FileAnswer : Type 0
+FileAnswer = (unit : ℕ) (settings l : List ℕ) (p : List ℤ) (a s : List ℕ) → Asked unit l p a s → (fs : List Placed) (bad : Option ℕ) → Reads first 0 l fs bad →
+    answerOfFile unit settings l p a s ≡ answerFor (sentences unit settings l p a s fs bad .refusal)
+
 -- ---- the drawing of a file that is not refused has the strokes that W4's sentences give for the file, in their order: as many, with their apertures and points
 pub record SameStrokes (d : Drawing) (ds : List Drawn) : Type 0 where
   pub count : length (d .apertures) ≡ length ds
@@ -38,7 +48,7 @@ pub record SameStrokes (d : Drawing) (ds : List Drawn) : Type 0 where
 
 abbrev pub FileStrokes : Type 0
 FileStrokes = (unit : ℕ) (settings l : List ℕ) (p : List ℤ) (a s : List ℕ) → Asked unit l p a s → answerOfFile unit settings l p a s ≡ Done →
-    (fs : List Placed) (bad : Option ℕ) → Reads first 0 l fs bad → SameStrokes (drawingOfFile unit settings l p a s) (strokesOfFile unit settings l p a s fs bad)
+    (fs : List Placed) (bad : Option ℕ) → Reads first 0 l fs bad → SameStrokes (drawingOfFile unit settings l p a s) (sentences unit settings l p a s fs bad .strokes)
 
 -- ---- a stroke that the reader gives is never refused by the drawing, whatever the raster; and so a film of settings that are not refused never is
 pub record Size (n : ℕ) : Type 0 where
