@@ -3,8 +3,10 @@
 // What is refused is told at the first byte of its command, or at the file's end. The first byte may have
 // come chunks ago, since a comment can be megabytes long: so its line and column are kept.
 
+ghost use mathlib.Core.Path.{_≡_};
 ghost use Prim.Native.Nat.{_≤_};
 ghost use lib.ListN.{length};
+ghost use Rattle.plot.specs.Marks.{behind, past};
 
 // A byte's place in the file, from 0, with its line and its column.
 pub struct Mark {
@@ -36,7 +38,9 @@ pub fn begin() -> Marks {
 }
 
 // The place behind a byte. No file is so long that a number wraps.
-fn behind(m: Mark, byte: u8) -> Mark {
+fn behind(m: Mark, byte: u8) -> Mark
+    ensures { λ r. ⌜ r ≡ behind m byte ⌝ }
+{
     let at = std::num::wrapping_add_u64(m.at, 1);
     if byte == b'\n' {
         return Mark {
@@ -53,7 +57,9 @@ fn behind(m: Mark, byte: u8) -> Mark {
 }
 
 // The place behind all these bytes.
-fn past(m: Mark, bytes: &[u8]) -> Mark {
+fn past(m: Mark, bytes: &[u8]) -> Mark
+    ensures { λ r. ⌜ r ≡ past m (now (bytes .entry)) ⌝ }
+{
     let mut mark = m;
     let mut i = 0;
     while i < bytes.len() {

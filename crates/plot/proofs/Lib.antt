@@ -1,0 +1,2 @@
+-- Lines and columns, byte by byte.
+pub mod Places

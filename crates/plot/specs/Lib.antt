@@ -1,0 +1,2 @@
+-- Where a byte of the file stands.
+pub mod Marks
