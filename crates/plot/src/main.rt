@@ -8,15 +8,19 @@
 // is missing or not whole: a program has no exit status.
 //
 // The way of the data: the words are read (words), then the file in chunks (intake, with marks),
-// whose strokes are kept in lent lists; and of these the film is drawn band by band (output).
+// whose strokes are kept in lent lists; and of these the film is drawn band by band (the crate output).
 use intake::Intake;
 use limits::Verdict;
+ghost use mathlib.Core.Path.{_≡_};
+ghost use mathlib.Core.Bool.{true};
 ghost use Prim.Native.Nat.{_≤_};
-ghost use lib.ListN.{length};
+ghost use lib.ListN.{length, take};
+ghost use Rattle.limits.specs.declared.Verdict.the-variants.{Passed};
+ghost use Rattle.drawing.specs.Strokes.{drawingOf};
+ghost use Rattle.drawing.specs.Film.{bandVerdict};
 
 mod intake;
 mod marks;
-mod output;
 mod refusal;
 mod words;
 
@@ -30,6 +34,36 @@ const STARTS_MAX: usize = 131073;
 
 const ENTRIES_MAX: usize = 524288;
 
+// Writes the film of the first strokes of the list, so many. Answers whether all was written.
+fn write_film(
+    settings: &[u64],
+    apertures: &[u64],
+    count: usize,
+    starts: &[usize],
+    path: &[i32],
+    columns: u64,
+    rows: u64,
+) -> bool
+    ensures { λ r. ⌜ (r ≡ true →
+        bandVerdict (drawingOf (now (settings .entry)) (take count (now (apertures .entry))) (now (starts .entry)) (now (path .entry))) columns rows 0 rows ≡ Passed) ⌝ }
+{
+    if apertures.len() < count {
+        refusal::fault();
+        return false;
+    }
+    output::write(
+        b"plot",
+        settings,
+        &apertures[..count],
+        starts,
+        path,
+        columns,
+        rows,
+        0,
+        rows,
+    )
+}
+
 // The lists are here and nowhere else: all that read or write them are lent them.
 fn draw_file(unit: u64, columns: u64, rows: u64, settings: &[u64]) {
     let mut path = [0i32; ENTRIES_MAX];
@@ -39,7 +73,7 @@ fn draw_file(unit: u64, columns: u64, rows: u64, settings: &[u64]) {
     let Intake::Whole(count) = read else {
         return;
     };
-    output::write(settings, &apertures, count, &starts, &path, columns, rows);
+    write_film(settings, &apertures, count, &starts, &path, columns, rows);
 }
 
 // All that can be refused before the file is read: the settings (1), N (1), the raster (4).

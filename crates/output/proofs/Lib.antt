@@ -1,0 +1,2 @@
+-- What is proved of the bands in their order.
+pub mod Order

@@ -1,0 +1,90 @@
+-- True is answered only where the top band was put. The rows are there, or what is told of them is the drawing's refusal.
+use Prim.Native.Nat.{ℕ, _+_, _≤_}
+use native.Mathlib.Omega.{arith}
+use mathlib.Core.Path.{_≡_, refl, sym, ap, _∙_}
+use mathlib.Core.Bool.{Bool, true, false, not}
+use lib.ListN.{replicate}
+use denote.Ref.{now}
+use borrow.Author.Tests.{leb-true}
+use Rattle.integers.proofs.Tests.{clash}
+use Rattle.checks.specs.Answer.{Result}
+use Rattle.drawing.specs.Strokes.{drawingOf}
+use Rattle.output.proofs.Order.{put-passed}
+use borrow.Author.Needs.{needs}
+use Rattle.output.proofs.write.Statement.{statement}
+use Rattle.output.proofs.write.Tie as tie
+
+no-not : (t : Bool) → not t ≡ false → t ≡ true
+no-not true e = refl
+no-not false e = absurd (clash refl e)
+
+-- where the rows are there
+inside : (c : tie.Else1) → let a = c .before .before .before .before .before .before .args in a .first + a .n ≤ a .rows
+inside c =
+    let a = c .before .before .before .before .before .before .args in
+    leb-true (a .first + a .n) (a .rows) (sym (c .before .has-rows .ensures) ∙ no-not (c .before .has-rows .result) (c .if1 .left))
+
+has-rows-requires : tie.Need-has-rows-requires
+has-rows-requires c κs = search needs
+
+slice-aggregate-put-band : tie.Need-slice-aggregate-put-band
+slice-aggregate-put-band c = search needs
+
+put-band-requires : tie.Need-put-band-requires
+put-band-requires c κs = search needs
+
+slice-aggregate-deliver : tie.Need-slice-aggregate-deliver
+slice-aggregate-deliver c = search needs
+
+deliver-requires : tie.Need-deliver-requires
+deliver-requires c κs = search needs
+
+returns : tie.Need-returns
+returns c e =
+    let put = c .before .before .before in
+    let a = put .before .before .before .before .before .before .before .before .args in
+    let d = drawingOf (now (a .settings)) (now (a .apertures)) (now (a .starts)) (now (a .entries)) in
+    put-passed d (a .columns) (a .rows) (a .first) (a .n) (replicate 262144 0) (sym (ap (λ (r : Result ℕ). r .answer .refusal) (put .put-band .ensures)) ∙ c .deliver .ensures .0 e)
+
+slice-aggregate-write-top : tie.Need-slice-aggregate-write-top
+slice-aggregate-write-top c = search needs
+
+write-top-requires : tie.Need-write-top-requires
+write-top-requires c κs = inside (c .before)
+
+returns-2 : tie.Need-returns-2
+returns-2 c e = absurd (clash e refl)
+
+rows-of-requires : tie.Need-rows-of-requires
+rows-of-requires c κs = search needs
+
+sub-left : tie.Need-sub-left
+sub-left c = omega (arith, c .rows-of .ensures)
+
+slice-aggregate-write-rest : tie.Need-slice-aggregate-write-rest
+slice-aggregate-write-rest c = search needs
+
+write-rest-requires : tie.Need-write-rest-requires
+write-rest-requires c κs = omega (arith, c .before .rows-of .ensures, inside (c .before .before .before .before .before .before))
+
+returns-3 : tie.Need-returns-3
+returns-3 c e = let k = c .before .before .before .before in k .before .before .write-top .ensures (no-not (k .before .before .write-top .result) (k .if2 .left))
+
+pub write-spec : {M : Type 1} → statement M
+write-spec =
+    tie.close
+    (tie.spec
+    has-rows-requires
+    slice-aggregate-put-band
+    put-band-requires
+    slice-aggregate-deliver
+    deliver-requires
+    returns
+    slice-aggregate-write-top
+    write-top-requires
+    returns-2
+    rows-of-requires
+    sub-left
+    slice-aggregate-write-rest
+    write-rest-requires
+    returns-3)
