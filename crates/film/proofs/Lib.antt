@@ -1,2 +1,3 @@
 -- What is proved of the legend.
 pub mod Taken
+pub mod Reading

@@ -1,4 +1,5 @@
--- The legend, stroke by stroke. The lists of src/legend.rt are the same drawing in the form that the code takes: the contract of `draw_legend` says so.
+-- The legend, stroke by stroke, in units. The program holds it as Gerber text (src/legend.rt): the contract of `read` says that the text has these strokes and no other.
+-- A dot is a stroke of one unit, since no text of W4's has a stroke of one point.
 use Prim.Native.Nat.{ℕ, _+_}
 use mathlib.Core.List.{List, [], _∷_, _++_, map}
 use lib.ListN.{length}
@@ -111,7 +112,7 @@ strokes =
     -- rule 1
     stroke 21 (pos 1224 ∷ pos 4520 ∷ pos 3128 ∷ pos 4520 ∷ []) ∷
     -- hub
-    stroke 22 (pos 5120 ∷ pos 2688 ∷ []) ∷
+    stroke 22 (pos 5120 ∷ pos 2688 ∷ pos 5121 ∷ pos 2688 ∷ []) ∷
     -- ray 0
     stroke 12 (pos 5536 ∷ pos 2688 ∷ pos 6528 ∷ pos 2688 ∷ []) ∷
     -- ray 15
@@ -169,10 +170,10 @@ strokes =
     -- zigzag, level pen
     stroke 24 (pos 7216 ∷ pos 1984 ∷ pos 7492 ∷ pos 2560 ∷ pos 7768 ∷ pos 1984 ∷ pos 8044 ∷ pos 2560 ∷ pos 8320 ∷ pos 1984 ∷ pos 8596 ∷ pos 2560 ∷ pos 8872 ∷ pos 1984 ∷ pos 9148 ∷ pos 2560 ∷ pos 9424 ∷ pos 1984 ∷ []) ∷
     -- dot
-    stroke 14 (pos 7360 ∷ pos 1024 ∷ []) ∷
-    stroke 25 (pos 8085 ∷ pos 1024 ∷ []) ∷
-    stroke 26 (pos 8811 ∷ pos 1024 ∷ []) ∷
-    stroke 27 (pos 9472 ∷ pos 1024 ∷ []) ∷
+    stroke 14 (pos 7360 ∷ pos 1024 ∷ pos 7361 ∷ pos 1024 ∷ []) ∷
+    stroke 25 (pos 8084 ∷ pos 1024 ∷ pos 8085 ∷ pos 1024 ∷ []) ∷
+    stroke 26 (pos 8811 ∷ pos 1024 ∷ pos 8812 ∷ pos 1024 ∷ []) ∷
+    stroke 27 (pos 9472 ∷ pos 1024 ∷ pos 9473 ∷ pos 1024 ∷ []) ∷
     []
 
 unfoldable pub legend : Drawing
