@@ -10,8 +10,6 @@
  * by n; such times are marked with ~. The library must draw the fast way's pixels; cairo's
  * pen is another, so that only its number of black pixels is told.
  */
-#define _POSIX_C_SOURCE 200809L
-
 #include "bench.h"
 
 #include <cairo.h>
@@ -19,42 +17,15 @@
 #include <stdio.h>
 #include <stdlib.h>
 #include <string.h>
-#include <time.h>
 
 /* A contender has about this long, in seconds, for a work; one round takes half of it at most. */
 static double patience;
 
 static FILE *numbers;
 
-void give_up(const char *what)
-{
-    fprintf(stderr, "bench: %s\n", what);
-    exit(1);
-}
-
-void *memory(size_t length)
-{
-    void *bytes = malloc(length);
-    if (bytes == NULL)
-        give_up("no memory");
-    return bytes;
-}
-
 void keep(const char *table, const char *line, const char *column, double value)
 {
     fprintf(numbers, "%s\t%s\t%s\t%.9g\n", table, line, column, value);
-}
-
-/*
- * The time that this process has computed. All contenders are of one thread, so that
- * nothing of their work is missed, and waiting for a busy machine does not count.
- */
-static double seconds(void)
-{
-    struct timespec now;
-    if (clock_gettime(CLOCK_PROCESS_CPUTIME_ID, &now) != 0)
-        give_up("no clock");
-    return (double)now.tv_sec + (double)now.tv_nsec * 1e-9;
 }
 
 /* A cell with three digits that count, or all before the point. */

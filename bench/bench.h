@@ -1,4 +1,4 @@
-/* What bench.c, works.c and memory.c share. */
+/* What bench.c, films.c, works.c and memory.c share. */
 #ifndef BENCH_H
 #define BENCH_H
 
@@ -8,11 +8,22 @@
 #include <stddef.h>
 #include <stdint.h>
 
-/* ------------------------------------------------------------------- bench.c */
+/* ------------------------------------------------------------------ shared.c */
 
 _Noreturn void give_up(const char *what);
 
 void *memory(size_t length);
+
+/*
+ * The time that this process has computed. All contenders are of one thread, so that
+ * nothing of their work is missed, and waiting for a busy machine does not count.
+ */
+double seconds(void);
+
+/* The time by a clock on the wall. */
+double wall_seconds(void);
+
+/* ------------------------------------------------------------------- bench.c */
 
 /* Keeps a number for the file of numbers. */
 void keep(const char *table, const char *line, const char *column, double value);
