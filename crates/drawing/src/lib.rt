@@ -80,8 +80,8 @@ fn film_check(
     Verdict::Refused(number, place)
 }
 
-// Whether there are rows, and all of them are the raster's.
-fn rows_check(rows: u64, first: u64, n: u64) -> Verdict
+// Whether there are rows, and all of them are the raster's (5). put_band checks so, after all else of the film.
+pub fn rows_check(rows: u64, first: u64, n: u64) -> Verdict
     ensures { λ r. ⌜ r ≡ rowVerdict rows (topRow rows first n) ⌝ }
 {
     if n == 0 {

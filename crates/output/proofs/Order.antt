@@ -1,21 +1,26 @@
 -- The bands in their order: the claims BandsInOrder and BandsTaken.
-use Prim.Native.Nat.{ℕ, zero, suc, _+_, _-_, _*_, _/_, _≤_, max}
+use Prim.Native.Nat.{ℕ, zero, suc, _+_, _-_, _*_, _/_, _≤_, _<_, max}
 use native.Mathlib.Nat.{mul-le-mul-right, div-mul-le-self, le-div-iff-mul-le, le-trans}
 use native.Mathlib.Omega.{arith}
+use native.Mathlib.Decide.{decLt}
 use mathlib.Core.Path.{_≡_, refl, sym, ap, _∙_}
+use mathlib.Core.Logic.{inl, inr}
 use mathlib.Core.List.{List, [], _++_}
+use lib.Dec.{ltb}
 use lib.ListN.{length}
-use borrow.Author.Tests.{lt-ltb}
+use borrow.Author.Tests.{lt-ltb, ltb-true}
 use Rattle.limits.specs.Refusal.{row}
 use Rattle.limits.specs.declared.Verdict.{Verdict}
 use Rattle.limits.specs.declared.Verdict.the-variants.{Passed}
-use Rattle.limits.proofs.Verdicts.{passed}
+use Rattle.limits.proofs.Verdicts.{passed, unless-true}
 use Rattle.bits.specs.Bits.{packedLength}
 use Rattle.checks.specs.Checks.{rowVerdict}
 use Rattle.checks.specs.Answer.{Result, Offer, given}
 use Rattle.checks.proofs.Given.{room-left}
 use Rattle.band.specs.Band.{topRow}
+use Rattle.band.specs.Refuses.{BadBand}
 use Rattle.band.proofs.Rules.{top-is}
+use Rattle.band.proofs.Theorems.{top-row-is}
 use Rattle.pbm.specs.Pbm.{header, topFirst, fileOffer}
 use Rattle.drawing.specs.Strokes.{Drawing, filmVerdict}
 use Rattle.drawing.specs.Film.{bandOf, bandVerdict, bandPut}
@@ -66,6 +71,14 @@ bands-in-order d columns rows = record {
 }
 
 -- ---- taken or refused
+-- rows whose check is passed are the raster's
+pub rows-inside : (rows first n : ℕ) → rowVerdict rows (topRow rows first n) ≡ Passed → first + n ≤ rows
+rows-inside rows first n e =
+    let top = ltb-true (topRow rows first n) rows (unless-true (ltb (topRow rows first n) rows) row e) in
+    let good : ¬ BadBand rows first n = λ z. top-row-is rows first n .1 z top in
+    let few : ¬ (rows - first < n) = λ z. good (inr (inr z)) in
+    elim (decLt first rows) [ yes l ↦ omega arith | no l ↦ absurd (good (inl l)) ]
+
 module _ (d : Drawing) (columns rows : ℕ) where
   -- the film's checks are passed, and its rows are there
   passes : (first n : ℕ) → filmVerdict d columns rows ≡ Passed → 1 ≤ n → first + n ≤ rows → bandVerdict d columns rows first n ≡ Passed

@@ -4,10 +4,10 @@
 // refused; the header goes out, and then each band, the top one first. What is put for each is proved to be the
 // film's, and the bands one behind the other to be its rows: the loop only moves their bytes.
 use checks::Answer;
+use limits::Verdict;
 ghost use mathlib.Core.Path.{_≡_};
 ghost use mathlib.Core.Bool.{true};
 ghost use Prim.Native.Nat.{_+_, _≤_};
-ghost use lib.Dec.{leb};
 ghost use Rattle.bits.specs.Bits.{packedLength};
 ghost use Rattle.limits.specs.declared.Verdict.the-variants.{Passed};
 ghost use Rattle.drawing.specs.Strokes.{drawingOf};
@@ -140,19 +140,6 @@ fn write_rest(
     true
 }
 
-// Whether the film has these rows.
-fn has_rows(rows: u64, first: u64, n: u64) -> bool
-    ensures { λ r. ⌜ r ≡ leb (first + n) rows ⌝ }
-{
-    if rows < first {
-        return false;
-    }
-    if rows - first < n {
-        return false;
-    }
-    true
-}
-
 // Writes the rows of the drawing's film from row `first` on, n of them, as a film of their own: the header and
 // then the rows, the top one first. Answers whether all was written. A refusal, which a row that the film
 // has not is too (5), is told in the name of the program, and nothing is written.
@@ -171,7 +158,8 @@ pub fn write(
         bandVerdict (drawingOf (now (settings .entry)) (now (apertures .entry)) (now (starts .entry)) (now (entries .entry))) columns rows first n ≡ Passed) ⌝ }
 {
     let mut out = [0u8; BAND];
-    if !has_rows(rows, first, n) {
+    let of_rows = drawing::rows_check(rows, first, n);
+    if let Verdict::Refused(_, _) = of_rows {
         let answer = drawing::put_band(
             settings,
             apertures,

@@ -19,7 +19,7 @@ pub fn tell(why: &[u8]) {
 }
 
 pub fn usage() {
-    say(b"usage: plot N COLUMNS ROWS W P Q [W P Q ..] <GERBER >FILM\n");
+    say(b"usage: plot [rows FIRST COUNT] N COLUMNS ROWS W P Q [W P Q ..] <GERBER >FILM\n");
 }
 
 // Tells what cannot be: by what the calls promise no branch that calls this is taken.
@@ -57,6 +57,11 @@ pub fn tell_unit() {
 pub fn tell_raster(number: u64) {
     say_refused(number);
     say(b"COLUMNS or ROWS: outside the limits: each is 1 to 16,384\n");
+}
+
+pub fn tell_rows(number: u64) {
+    say_refused(number);
+    say(b"FIRST or COUNT: the film has no such rows\n");
 }
 
 // A refusal of the file, as "plot: 14 at byte 37, line 3, column 5: ". Bytes count from 0, lines and columns

@@ -1,5 +1,6 @@
-// The words of the command line: each is a number.
+// The words of the command line: each is a number, but for the first, which may be `rows`.
 use inputs::Number;
+ghost use Prim.Native.Nat.{_≤_};
 
 // The number that an argument is. One that is longer than the buffer is none.
 fn number_of(i: usize) -> Number {
@@ -11,16 +12,32 @@ fn number_of(i: usize) -> Number {
     inputs::read_number(&word[..n])
 }
 
-// Fills the list with the words, from argument 1 on. Answers 0, or the first word that is no number.
-pub fn read_words(numbers: &mut [u64]) -> usize {
+// Whether the first word is `rows`.
+pub fn is_rows() -> bool {
+    let mut word = io::buffer();
+    let n = os::arg(1, &mut word);
+    if os::errno() != 0 {
+        return false;
+    }
+    if n != 4 {
+        return false;
+    }
+    word[0] == b'r' && word[1] == b'o' && word[2] == b'w' && word[3] == b's'
+}
+
+// Fills the list with the words behind the first ones, so many. Answers 0, or the first word that is no
+// number, counted from 1.
+pub fn read_words(numbers: &mut [u64], skipped: usize) -> usize
+    requires { ⌜ skipped ≤ 1 ⌝ }
+{
     let mut i = 0;
     while i < numbers.len() {
-        let word = i + 1;
+        let word = skipped + i + 1;
         let Number::Value(n) = number_of(word) else {
             return word;
         };
         numbers[i] = n;
-        i = word;
+        i += 1;
     }
     0
 }

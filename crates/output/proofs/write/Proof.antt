@@ -5,11 +5,10 @@ use mathlib.Core.Path.{_≡_, refl, sym, ap, _∙_}
 use mathlib.Core.Bool.{Bool, true, false, not}
 use lib.ListN.{replicate}
 use denote.Ref.{now}
-use borrow.Author.Tests.{leb-true}
 use Rattle.integers.proofs.Tests.{clash}
 use Rattle.checks.specs.Answer.{Result}
 use Rattle.drawing.specs.Strokes.{drawingOf}
-use Rattle.output.proofs.Order.{put-passed}
+use Rattle.output.proofs.Order.{put-passed, rows-inside}
 use borrow.Author.Needs.{needs}
 use Rattle.output.proofs.write.Statement.{statement}
 use Rattle.output.proofs.write.Tie as tie
@@ -19,13 +18,20 @@ no-not true e = refl
 no-not false e = absurd (clash refl e)
 
 -- where the rows are there
-inside : (c : tie.Else1) → let a = c .before .before .before .before .before .before .args in a .first + a .n ≤ a .rows
-inside c =
-    let a = c .before .before .before .before .before .before .args in
-    leb-true (a .first + a .n) (a .rows) (sym (c .before .has-rows .ensures) ∙ no-not (c .before .has-rows .result) (c .if1 .left))
+abbrev start : tie.After-rows-check → tie.Start
+start c = c .before .before .before .before .before
 
-has-rows-requires : tie.Need-has-rows-requires
-has-rows-requires c κs = search needs
+inside : (c : tie.After-enum-told2) → let a = start (c .before .before) .args in a .first + a .n ≤ a .rows
+inside c =
+    let k = c .before .before in
+    let a = start k .args in
+    rows-inside (a .rows) (a .first) (a .n) (sym (k .rows-check .ensures) ∙ c .enum-told2 .given .1)
+
+rows-check-requires : tie.Need-rows-check-requires
+rows-check-requires c κs = search needs
+
+enum-told : tie.Need-enum-told
+enum-told c = search needs
 
 slice-aggregate-put-band : tie.Need-slice-aggregate-put-band
 slice-aggregate-put-band c = search needs
@@ -42,9 +48,12 @@ deliver-requires c κs = search needs
 returns : tie.Need-returns
 returns c e =
     let put = c .before .before .before in
-    let a = put .before .before .before .before .before .before .before .before .args in
+    let a = start (put .before .before .before .before) .args in
     let d = drawingOf (now (a .settings)) (now (a .apertures)) (now (a .starts)) (now (a .entries)) in
     put-passed d (a .columns) (a .rows) (a .first) (a .n) (replicate 262144 0) (sym (ap (λ (r : Result ℕ). r .answer .refusal) (put .put-band .ensures)) ∙ c .deliver .ensures .0 e)
+
+enum-told-2 : tie.Need-enum-told-2
+enum-told-2 c = search needs
 
 slice-aggregate-write-top : tie.Need-slice-aggregate-write-top
 slice-aggregate-write-top c = search needs
@@ -68,18 +77,20 @@ write-rest-requires : tie.Need-write-rest-requires
 write-rest-requires c κs = omega (arith, c .before .rows-of .ensures, inside (c .before .before .before .before .before .before))
 
 returns-3 : tie.Need-returns-3
-returns-3 c e = let k = c .before .before .before .before in k .before .before .write-top .ensures (no-not (k .before .before .write-top .result) (k .if2 .left))
+returns-3 c e = let k = c .before .before .before .before in k .before .before .write-top .ensures (no-not (k .before .before .write-top .result) (k .if1 .left))
 
 pub write-spec : {M : Type 1} → statement M
 write-spec =
     tie.close
     (tie.spec
-    has-rows-requires
+    rows-check-requires
+    enum-told
     slice-aggregate-put-band
     put-band-requires
     slice-aggregate-deliver
     deliver-requires
     returns
+    enum-told-2
     slice-aggregate-write-top
     write-top-requires
     returns-2

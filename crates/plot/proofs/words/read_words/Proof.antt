@@ -8,16 +8,19 @@ use Rattle.plot.proofs.words.read_words.Statement.{statement}
 use Rattle.plot.proofs.words.read_words.Tie as tie
 
 abbrev Inv-loop : tie.InvT-loop
-Inv-loop numbers₀ i₀ numbers i = length numbers ≡ length numbers₀
+Inv-loop numbers₀ skipped i₀ numbers i = length numbers ≡ length numbers₀
 
 abbrev μ-loop : tie.MeasureT-loop
-μ-loop numbers₀ i₀ numbers i = length numbers - i
+μ-loop numbers₀ skipped i₀ numbers i = length numbers - i
 
 loop-holds : tie.Need-loop-holds Inv-loop μ-loop
 loop-holds c = search needs
 
 add-word : tie.Need-add-word Inv-loop μ-loop
 add-word c = search needs
+
+add-word-2 : tie.Need-add-word-2 Inv-loop μ-loop
+add-word-2 c = search needs
 
 number-of-requires : tie.Need-number-of-requires Inv-loop μ-loop
 number-of-requires c κs = search needs
@@ -36,6 +39,9 @@ mul-numbers c = search needs
 
 slice-write-numbers : tie.Need-slice-write-numbers Inv-loop μ-loop
 slice-write-numbers c = search needs
+
+add-i : tie.Need-add-i Inv-loop μ-loop
+add-i c = search needs
 
 loop-less : tie.Need-loop-less Inv-loop μ-loop
 loop-less c = simp length-set (omega arith)
@@ -57,12 +63,14 @@ read-words-spec =
     μ-loop
     loop-holds
     add-word
+    add-word-2
     number-of-requires
     enum-known-n
     same-length
     returns
     mul-numbers
     slice-write-numbers
+    add-i
     loop-less
     loop-again
     same-length-2
