@@ -81,11 +81,11 @@ rows-inside rows first n e =
 
 module _ (d : Drawing) (columns rows : ℕ) where
   -- the film's checks are passed, and its rows are there
-  passes : (first n : ℕ) → filmVerdict d columns rows ≡ Passed → 1 ≤ n → first + n ≤ rows → bandVerdict d columns rows first n ≡ Passed
+  pub passes : (first n : ℕ) → filmVerdict d columns rows ≡ Passed → 1 ≤ n → first + n ≤ rows → bandVerdict d columns rows first n ≡ Passed
   passes first n e h k = both e (sym (passed row (lt-ltb (topRow rows first n) rows (omega (arith, top-is rows first n h k)))))
 
   -- so a band is put where there is room for it
-  put : (first n : ℕ) (b : List ℕ) → bandVerdict d columns rows first n ≡ Passed → n * packedLength columns ≤ length b → bandPut d columns rows first n b .answer .refusal ≡ 0
+  pub put : (first n : ℕ) (b : List ℕ) → bandVerdict d columns rows first n ≡ Passed → n * packedLength columns ≤ length b → bandPut d columns rows first n b .answer .refusal ≡ 0
   put first n b e h =
       let o : Offer ℕ = fileOffer (bandOf d columns rows first n) b in
       ap (λ (v : Verdict). given v o .answer .refusal) e
