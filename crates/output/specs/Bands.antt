@@ -8,7 +8,7 @@ use Rattle.drawing.specs.Film.{bandOf, bandPut}
 
 -- how many bytes the buffer has
 abbrev pub bandBytes : ℕ
-bandBytes = 262144
+bandBytes = 524288
 
 -- how many rows of so many bytes the next band has, where so many are left: as many as fit into the buffer, and one at least
 abbrev pub rowsOf : ℕ → ℕ → ℕ

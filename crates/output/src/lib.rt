@@ -14,8 +14,8 @@ ghost use Rattle.drawing.specs.Strokes.{drawingOf};
 ghost use Rattle.drawing.specs.Film.{bandVerdict};
 ghost use Rattle.output.specs.Bands.{rowsOf, nextPut};
 
-// How many bytes of the film are drawn at a time, at most: 128 rows of the widest.
-const BAND: usize = 262144;
+// How many bytes of the film are drawn at a time, at most: 256 rows of the widest.
+const BAND: usize = 524288;
 
 // How many rows the next band has, where so many are left: as many as fit, and one at least.
 fn rows_of(columns: u64, left: u64) -> u64

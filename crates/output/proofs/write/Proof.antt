@@ -8,6 +8,7 @@ use denote.Ref.{now}
 use Rattle.integers.proofs.Tests.{clash}
 use Rattle.checks.specs.Answer.{Result}
 use Rattle.drawing.specs.Strokes.{drawingOf}
+use Rattle.output.specs.Bands.{bandBytes}
 use Rattle.output.proofs.Order.{put-passed, rows-inside}
 use borrow.Author.Needs.{needs}
 use Rattle.output.proofs.write.Statement.{statement}
@@ -50,7 +51,7 @@ returns c e =
     let put = c .before .before .before in
     let a = start (put .before .before .before .before) .args in
     let d = drawingOf (now (a .settings)) (now (a .apertures)) (now (a .starts)) (now (a .entries)) in
-    put-passed d (a .columns) (a .rows) (a .first) (a .n) (replicate 262144 0) (sym (ap (λ (r : Result ℕ). r .answer .refusal) (put .put-band .ensures)) ∙ c .deliver .ensures .0 e)
+    put-passed d (a .columns) (a .rows) (a .first) (a .n) (replicate bandBytes 0) (sym (ap (λ (r : Result ℕ). r .answer .refusal) (put .put-band .ensures)) ∙ c .deliver .ensures .0 e)
 
 enum-told-2 : tie.Need-enum-told-2
 enum-told-2 c = search needs
