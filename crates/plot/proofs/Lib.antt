@@ -1,2 +1,7 @@
--- Lines and columns, byte by byte.
+-- Lines and columns.
+--   Places   byte by byte
+--   Parts    a chunk in two parts
+--   Kept     chunk by chunk: the claims
 pub mod Places
+pub mod Parts
+pub mod Kept

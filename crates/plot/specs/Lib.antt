@@ -1,2 +1,3 @@
--- Where a byte of the file stands.
+-- Where a byte of the file stands, and what is proved of it.
 pub mod Marks
+pub mod Theorems

@@ -4,9 +4,9 @@
 // come chunks ago, since a comment can be megabytes long: so its line and column are kept.
 
 ghost use mathlib.Core.Path.{_≡_};
-ghost use Prim.Native.Nat.{_≤_};
+ghost use lib.Dec.{eqb};
 ghost use lib.ListN.{length};
-ghost use Rattle.plot.specs.Marks.{behind, past};
+ghost use Rattle.plot.specs.Marks.{firstMark, behind, past, frontOf, begun, advanced, markOf};
 
 // A byte's place in the file, from 0, with its line and its column.
 pub struct Mark {
@@ -21,7 +21,9 @@ pub struct Marks {
     pub end: Mark,
 }
 
-fn first() -> Mark {
+fn first() -> Mark
+    ensures { λ r. ⌜ r ≡ firstMark ⌝ }
+{
     Mark {
         at: 0,
         line: 1,
@@ -30,7 +32,9 @@ fn first() -> Mark {
 }
 
 // Before the first byte of a file.
-pub fn begin() -> Marks {
+pub fn begin() -> Marks
+    ensures { λ r. ⌜ r ≡ begun ⌝ }
+{
     Marks {
         command: first(),
         end: first(),
@@ -73,7 +77,7 @@ fn past(m: Mark, bytes: &[u8]) -> Mark
 // How many bytes of a chunk, which starts at `from` in the file, come before byte `start` of the file. All
 // of them where it has no such byte.
 fn before(chunk: &[u8], from: u64, start: u64) -> usize
-    ensures { λ r. ⌜ r ≤ length (now (chunk .entry)) ⌝ }
+    ensures { λ r. ⌜ r ≡ frontOf from (length (now (chunk .entry))) start ⌝ }
 {
     if start < from {
         return chunk.len();
@@ -87,7 +91,9 @@ fn before(chunk: &[u8], from: u64, start: u64) -> usize
 
 // A chunk has been read, and the last command that was begun starts at byte `start` of the file: in this
 // chunk, or in one before.
-pub fn advance(m: Marks, chunk: &[u8], start: u64) -> Marks {
+pub fn advance(m: Marks, chunk: &[u8], start: u64) -> Marks
+    ensures { λ r. ⌜ r ≡ advanced m (now (chunk .entry)) start ⌝ }
+{
     let command = m.command;
     let end = m.end;
     let k = before(chunk, end.at, start);
@@ -106,13 +112,17 @@ pub fn advance(m: Marks, chunk: &[u8], start: u64) -> Marks {
 }
 
 // Whether a refusal's place is the file's end. Every other is a byte that has been read.
-pub fn is_end(m: Marks, place: u64) -> bool {
+pub fn is_end(m: Marks, place: u64) -> bool
+    ensures { λ r. ⌜ r ≡ eqb place (m .end .at) ⌝ }
+{
     let end = m.end;
     place == end.at
 }
 
 // The mark of a refusal's place: the file's end, or else the last command's first byte.
-pub fn mark_of(m: Marks, place: u64) -> Mark {
+pub fn mark_of(m: Marks, place: u64) -> Mark
+    ensures { λ r. ⌜ r ≡ markOf m place ⌝ }
+{
     if is_end(m, place) {
         return m.end;
     }
