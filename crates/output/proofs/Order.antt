@@ -27,7 +27,7 @@ use Rattle.drawing.specs.Film.{bandOf, bandVerdict, bandPut}
 use Rattle.drawing.proofs.Put.{band-long, raster-passed}
 use Rattle.drawing.proofs.Drawable.{both, raster-too, band-passes, band-gave}
 use Rattle.drawing.proofs.Bands.{bands-make-film}
-use Rattle.output.specs.Bands.{bandBytes, rowsOf, nextBand, nextPut, bandsFrom}
+use Rattle.output.specs.Bands.{bandBytes, rowsOf, nextBand, bandsFrom}
 use Rattle.output.specs.Theorems.{BandsInOrder, BandsTaken}
 
 -- ---- how many rows
