@@ -1,10 +1,9 @@
 // The Gerber file on standard input, read in chunks to its end or to a refusal, its strokes gathered.
-use crate::marks;
-use crate::marks::Marks;
 use crate::refusal;
 use aperture::Table;
 use gather::Finished;
 use gather::Gathering;
+use marks::Marks;
 
 // Whole: so many strokes are in the lists. Told: there is no film, and it has been told why.
 pub enum Intake {

@@ -10,7 +10,7 @@
 // and nothing of it is refused. Whatever else there is to tell stands on standard error, and then the film
 // is missing or not whole: a program has no exit status.
 //
-// The way of the data: the words are read (words), then the file in chunks (intake, with marks),
+// The way of the data: the words are read (words), then the file in chunks (intake, with the crate marks),
 // whose strokes are kept in lent lists; and of these the film is drawn band by band (the crate output).
 use intake::Intake;
 use limits::Verdict;
@@ -23,7 +23,6 @@ ghost use Rattle.drawing.specs.Strokes.{drawingOf};
 ghost use Rattle.drawing.specs.Film.{bandVerdict};
 
 mod intake;
-mod marks;
 mod refusal;
 mod words;
 

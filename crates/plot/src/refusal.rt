@@ -1,7 +1,7 @@
 // What is told on standard error, in the name of the program: the number of a refusal, its place and what
 // it means; or why there is no film otherwise.
-use crate::marks::Mark;
 use libc::STDERR_FILENO;
+use marks::Mark;
 
 fn say(text: &[u8]) {
     io::write_all(STDERR_FILENO, text);

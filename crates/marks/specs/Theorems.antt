@@ -7,9 +7,9 @@ use mathlib.Core.Path.{_≡_}
 use mathlib.Core.Logic.{_⊎_}
 use mathlib.Core.List.{List, [], _++_}
 use lib.ListN.{length, take}
-use Rattle.plot.specs.declared.marks.Mark.{Mark}
-use Rattle.plot.specs.declared.marks.Marks.{Marks}
-use Rattle.plot.specs.Marks.{firstMark, past, begun, advanced, markOf}
+use Rattle.marks.specs.declared.Mark.{Mark}
+use Rattle.marks.specs.declared.Marks.{Marks}
+use Rattle.marks.specs.Marks.{firstMark, past, begun, advanced, markOf}
 
 -- byte i of a file, or its end: the mark behind all bytes before it
 abbrev pub markAt : List ℕ → ℕ → Mark

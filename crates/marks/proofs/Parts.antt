@@ -10,10 +10,10 @@ use lib.ListN.{length, take, drop, length-drop, take-append-drop}
 use lib.Seq.{take-all}
 use borrow.Author.Tests.{le-leb, lt-leb, lt-ltb, le-ltb, leb-true, ltb-true}
 use Rattle.integers.proofs.Tests.{and-both, and-true, false-and, and-false}
-use Rattle.plot.specs.declared.marks.Mark.{Mark}
-use Rattle.plot.specs.declared.marks.Marks.{Marks}
-use Rattle.plot.specs.Marks.{past, isOf, frontOf, advanced}
-use Rattle.plot.proofs.Places.{past-append}
+use Rattle.marks.specs.declared.Mark.{Mark}
+use Rattle.marks.specs.declared.Marks.{Marks}
+use Rattle.marks.specs.Marks.{past, isOf, frontOf, advanced}
+use Rattle.marks.proofs.Places.{past-append}
 
 -- ---- how many come before
 module _ (from n start : ℕ) where

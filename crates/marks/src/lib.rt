@@ -6,7 +6,7 @@
 ghost use mathlib.Core.Path.{_≡_};
 ghost use lib.Dec.{eqb};
 ghost use lib.ListN.{length};
-ghost use Rattle.plot.specs.Marks.{firstMark, behind, past, frontOf, begun, advanced, markOf};
+ghost use Rattle.marks.specs.Marks.{firstMark, behind, past, frontOf, begun, advanced, markOf};
 
 // A byte's place in the file, from 0, with its line and its column.
 pub struct Mark {

@@ -12,11 +12,11 @@ use lib.ListN.{length, take, length-append}
 use lib.Seq.{take-append-le, take-append-add, take-length}
 use borrow.Author.Tests.{le-leb, lt-leb, lt-ltb, eq-eqb, ne-eqb}
 use Rattle.integers.proofs.Tests.{and-true, false-and}
-use Rattle.plot.specs.declared.marks.Mark.{Mark}
-use Rattle.plot.specs.declared.marks.Marks.{Marks}
-use Rattle.plot.specs.Marks.{next, firstMark, behind, past, advanced, markOf}
-use Rattle.plot.specs.Theorems.{markAt, Read, none, more, Kept, MarksKept, MarksAnyChunks, MarkTold}
-use Rattle.plot.proofs.Places.{past-none, past-cons, past-append}
+use Rattle.marks.specs.declared.Mark.{Mark}
+use Rattle.marks.specs.declared.Marks.{Marks}
+use Rattle.marks.specs.Marks.{next, firstMark, behind, past, advanced, markOf}
+use Rattle.marks.specs.Theorems.{markAt, Read, none, more, Kept, MarksKept, MarksAnyChunks, MarkTold}
+use Rattle.marks.proofs.Places.{past-none, past-cons, past-append}
 
 -- ---- the place counts the bytes
 behind-at : (m : Mark) (b : ℕ) → behind m b .at ≡ next (m .at)

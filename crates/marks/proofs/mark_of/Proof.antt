@@ -2,8 +2,8 @@
 use mathlib.Core.Path.{sym, ap, _∙_}
 use mathlib.Core.Bool.{Bool, cond}
 use borrow.Author.Needs.{needs}
-use Rattle.plot.proofs.marks.mark_of.Statement.{statement}
-use Rattle.plot.proofs.marks.mark_of.Tie as tie
+use Rattle.marks.proofs.mark_of.Statement.{statement}
+use Rattle.marks.proofs.mark_of.Tie as tie
 
 is-end-requires : tie.Need-is-end-requires
 is-end-requires c κs = search needs

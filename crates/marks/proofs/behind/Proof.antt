@@ -2,11 +2,11 @@
 use Prim.Native.Nat.{ℕ}
 use mathlib.Core.Path.{_≡_}
 use borrow.Author.Tests.{eq-eqb, ne-eqb}
-use Rattle.plot.specs.declared.marks.Mark.{Mark}
-use Rattle.plot.specs.Marks.{next, behind}
+use Rattle.marks.specs.declared.Mark.{Mark}
+use Rattle.marks.specs.Marks.{next, behind}
 use borrow.Author.Needs.{needs}
-use Rattle.plot.proofs.marks.behind.Statement.{statement}
-use Rattle.plot.proofs.marks.behind.Tie as tie
+use Rattle.marks.proofs.behind.Statement.{statement}
+use Rattle.marks.proofs.behind.Tie as tie
 
 line-end : (m : Mark) {a l b : ℕ} → a ≡ next (m .at) → l ≡ next (m .line) → b ≡ 10 → record { at = a; line = l; column = 1 } ≡ behind m b
 line-end m {b = b} e f h = rw (e, f, eq-eqb b 10 h)

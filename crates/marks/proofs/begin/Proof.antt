@@ -1,9 +1,9 @@
 -- Both are the first byte's.
 use mathlib.Core.Path.{ap₂}
-use Rattle.plot.specs.declared.marks.Mark.{Mark}
+use Rattle.marks.specs.declared.Mark.{Mark}
 use borrow.Author.Needs.{needs}
-use Rattle.plot.proofs.marks.begin.Statement.{statement}
-use Rattle.plot.proofs.marks.begin.Tie as tie
+use Rattle.marks.proofs.begin.Statement.{statement}
+use Rattle.marks.proofs.begin.Tie as tie
 
 first-requires : tie.Need-first-requires
 first-requires c κs = search needs

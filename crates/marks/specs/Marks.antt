@@ -4,8 +4,8 @@ use mathlib.Core.Bool.{Bool, cond, _&&_}
 use mathlib.Core.List.{List, [], _∷_}
 use lib.Dec.{leb, ltb, eqb}
 use lib.ListN.{length, take}
-use Rattle.plot.specs.declared.marks.Mark.{Mark}
-use Rattle.plot.specs.declared.marks.Marks.{Marks}
+use Rattle.marks.specs.declared.Mark.{Mark}
+use Rattle.marks.specs.declared.Marks.{Marks}
 
 -- one more, among numbers of 64 bits: no file is so long that one wraps
 abbrev pub next : ℕ → ℕ

@@ -3,10 +3,10 @@ use Prim.Native.Nat.{_≤_}
 use native.Mathlib.Omega.{arith}
 use lib.ListN.{length, length-take}
 use denote.Ref.{now}
-use Rattle.plot.proofs.Parts.{front-few, old-command, new-command}
+use Rattle.marks.proofs.Parts.{front-few, old-command, new-command}
 use borrow.Author.Needs.{needs}
-use Rattle.plot.proofs.marks.advance.Statement.{statement}
-use Rattle.plot.proofs.marks.advance.Tie as tie
+use Rattle.marks.proofs.advance.Statement.{statement}
+use Rattle.marks.proofs.advance.Tie as tie
 
 -- where the bytes before the command have been counted
 abbrev start : tie.After-before2 → tie.Start

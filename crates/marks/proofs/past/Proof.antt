@@ -4,11 +4,11 @@ use native.Mathlib.Omega.{arith}
 use mathlib.Core.Path.{_≡_, refl, _∙_}
 use mathlib.Core.List.{List}
 use lib.ListN.{length, drop}
-use Rattle.plot.specs.Marks.{past}
-use Rattle.plot.proofs.Places.{ended, one}
+use Rattle.marks.specs.Marks.{past}
+use Rattle.marks.proofs.Places.{ended, one}
 use borrow.Author.Needs.{needs}
-use Rattle.plot.proofs.marks.past.Statement.{statement}
-use Rattle.plot.proofs.marks.past.Tie as tie
+use Rattle.marks.proofs.past.Statement.{statement}
+use Rattle.marks.proofs.past.Tie as tie
 
 abbrev Inv-loop : tie.InvT-loop
 Inv-loop bytes mark₀ i₀ mark i = past mark (drop i bytes) ≡ past mark₀ bytes

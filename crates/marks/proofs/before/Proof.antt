@@ -2,9 +2,9 @@
 use native.Mathlib.Omega.{arith}
 use lib.ListN.{length}
 use denote.Ref.{now}
-use Rattle.plot.proofs.Parts.{front-before, front-behind, front-here}
-use Rattle.plot.proofs.marks.before.Statement.{statement}
-use Rattle.plot.proofs.marks.before.Tie as tie
+use Rattle.marks.proofs.Parts.{front-before, front-behind, front-here}
+use Rattle.marks.proofs.before.Statement.{statement}
+use Rattle.marks.proofs.before.Tie as tie
 
 returns : tie.Need-returns
 returns c = let a = c .before .args in front-before (a .from) (length (now (a .chunk))) (a .start) (omega arith)

@@ -5,8 +5,8 @@ use mathlib.Core.Path.{_≡_, refl, sym, ap, _∙_}
 use mathlib.Core.List.{List, [], _∷_, _++_}
 use lib.ListN.{length, getD, drop, drop-of-length-le}
 use lib.Seq.{drop-cons}
-use Rattle.plot.specs.declared.marks.Mark.{Mark}
-use Rattle.plot.specs.Marks.{behind, past}
+use Rattle.marks.specs.declared.Mark.{Mark}
+use Rattle.marks.specs.Marks.{behind, past}
 
 pub past-none : (m : Mark) → past m [] ≡ m
 unfolding past
