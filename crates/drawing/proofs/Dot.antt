@@ -22,7 +22,7 @@ use Rattle.stroke.specs.Sweep.{pathPoints}
 use Rattle.bits.specs.Bits.{bitsFrom, bytesFrom, packed}
 use Rattle.text.specs.Decimal.{lastDigits}
 use Rattle.pbm.specs.Pbm.{header, topFirst}
-use Rattle.drawing.specs.Settings.{tabledFrom}
+use Rattle.setting_list.specs.Settings.{tabledFrom}
 use Rattle.drawing.specs.Strokes.{pathOf, firstFrom, filmVerdict}
 use Rattle.drawing.specs.Film.{rowOf}
 use Rattle.drawing.specs.Theorems.{settingOf}

@@ -30,12 +30,12 @@ use Rattle.band.specs.Band.{topRow}
 use Rattle.band.specs.Refuses.{BadBand}
 use Rattle.band.proofs.Theorems.{top-row-is}
 use Rattle.pbm.specs.Pbm.{fileOffer}
-use Rattle.drawing.specs.Settings.{settingAt, settingsVerdict}
+use Rattle.setting_list.specs.Settings.{settingAt, settingsVerdict}
 use Rattle.drawing.specs.Strokes.{Drawing, tableIn, pathOf, firstRefused, strokesVerdict, filmVerdict}
 use Rattle.drawing.specs.Film.{bandOf, bandVerdict, bandPut}
 use Rattle.drawing.specs.Theorems.{DrawableFilm, BandDone, BandTaken}
-use Rattle.drawing.proofs.Made.{table-made, settings-not-zero}
-use Rattle.drawing.proofs.Held.{held-setting}
+use Rattle.setting_list.proofs.Made.{table-made, settings-not-zero}
+use Rattle.setting_list.proofs.Held.{held-setting}
 use Rattle.drawing.proofs.Told.{takes-passed, strokes-told, all-taken, strokes-not-zero}
 
 -- ---- the aperture

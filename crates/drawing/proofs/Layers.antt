@@ -23,7 +23,7 @@ use Rattle.band.specs.Band.{bandOver, topRow, roomFor, bandOffer, bandCall}
 use Rattle.band.specs.Theorems.{packedRow}
 use Rattle.band.proofs.Theorems.{band-is-rows}
 use Rattle.pbm.specs.Pbm.{topFirst}
-use Rattle.drawing.specs.Settings.{settingAt}
+use Rattle.setting_list.specs.Settings.{settingAt}
 use Rattle.drawing.specs.Strokes.{Drawing, tableIn, pathOf}
 use Rattle.drawing.specs.Film.{added, rowUpTo, bandUpTo}
 use Rattle.drawing.proofs.Rows.{row-more, same-rows, zero-rows, rows-over}

@@ -1,8 +1,6 @@
--- What is proved of settings, strokes and bands.
+-- What is proved of strokes and bands.
 --   Rows       rows one under the other, and a row one stroke more at a time
---   Defined    the table, one setting more at a time
---   Made       what the table holds
---   Held       the checks without a table
+--   Alike      the checks of a stroke without a table
 --   Taken      the strokes, one more at a time
 --   Put        the band's length, and its rows
 --   Told       which stroke is refused
@@ -14,9 +12,7 @@
 --   Bands      the film by its bands
 --   Dot        document 01's whole file
 pub mod Rows
-pub mod Defined
-pub mod Made
-pub mod Held
+pub mod Alike
 pub mod Taken
 pub mod Put
 pub mod Told

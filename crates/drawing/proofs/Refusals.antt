@@ -24,8 +24,9 @@ use Rattle.pbm.specs.Pbm.{fileOffer}
 use Rattle.drawing.specs.declared.StrokeVerdict.{StrokeVerdict}
 use Rattle.drawing.specs.Strokes.{Drawing, strokesVerdict}
 use Rattle.drawing.specs.Film.{bandOf}
-use Rattle.drawing.specs.Theorems.{GoodSetting, FirstBadSetting, SettingTold, good, bad, strokeCall, StrokeTold, all, one, RestRefuses, BandSays, BandPutRefuses}
-use Rattle.drawing.proofs.Made.{settings-told}
+use Rattle.drawing.specs.Theorems.{strokeCall, StrokeTold, all, one, RestRefuses, BandSays, BandPutRefuses}
+use Rattle.setting_list.specs.Theorems.{GoodSetting, FirstBadSetting, SettingTold, good, bad}
+use Rattle.setting_list.proofs.Made.{settings-told}
 use Rattle.drawing.proofs.Told.{refused-whole, strokes-told, same-first}
 use Rattle.drawing.proofs.Put.{band-long}
 

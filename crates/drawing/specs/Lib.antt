@@ -1,10 +1,8 @@
 -- A film of several strokes.
---   Settings   the settings of a drawing as a table
 --   Strokes    the strokes, and what is checked of each
 --   Film       the film's rows and its file
 --   Theorems   what is promised of them, in document 01's words
 --   Cases      document 01's whole file
-pub mod Settings
 pub mod Strokes
 pub mod Film
 pub mod Theorems

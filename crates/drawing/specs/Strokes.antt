@@ -15,7 +15,7 @@ use Rattle.aperture.specs.declared.Table.{Table}
 use Rattle.aperture.specs.Table.{looked, lookedVerdict}
 use Rattle.drawing.specs.declared.StrokeVerdict.{StrokeVerdict}
 use Rattle.drawing.specs.declared.StrokeVerdict.the-variants.{AllTaken, Stroke}
-use Rattle.drawing.specs.Settings.{tableOf, settingsVerdict, isOneOf}
+use Rattle.setting_list.specs.Settings.{tableOf, settingsVerdict, isOneOf}
 
 -- the settings of the apertures, the aperture of each stroke, where each stroke's entries start, with the end of the last, and the entries of all
 pub record Drawing : Type 0 where

@@ -9,15 +9,12 @@ use mathlib.Core.Logic.{_↔_, _⊎_}
 use mathlib.Core.List.{List, _++_}
 use lib.ListN.{length, getD, take, drop, replicate}
 use lib.IntN.{pos}
-use Rattle.limits.specs.declared.Verdict.{Verdict}
-use Rattle.limits.specs.declared.Verdict.the-variants.{Passed, Refused}
+use Rattle.limits.specs.declared.Verdict.the-variants.{Passed}
 use Rattle.limits.specs.Exactly.{_when_else_, done, BadRaster, NoRoom}
 use Rattle.setting.specs.declared.Setting.{Setting}
-use Rattle.setting.specs.Exactly.{BadSetting}
 use Rattle.pen.specs.Polygon.{pen}
-use Rattle.aperture.specs.Table.{empty, placeOf}
-use Rattle.aperture.specs.Reachable.{Reachable, Holds}
-use Rattle.aperture.specs.Refusals.{NoNumber}
+use Rattle.aperture.specs.Table.{placeOf}
+use Rattle.aperture.specs.Reachable.{Holds}
 use Rattle.stroke.specs.Sweep.{centre, pathPoints}
 use Rattle.stroke.specs.Black.{BlackPath}
 use Rattle.checks.specs.Checks.{verdict}
@@ -28,42 +25,10 @@ use Rattle.band.specs.Refuses.{BadBand}
 use Rattle.pbm.specs.Pbm.{header}
 use Rattle.drawing.specs.declared.StrokeVerdict.{StrokeVerdict}
 use Rattle.drawing.specs.declared.StrokeVerdict.the-variants.{AllTaken, Stroke}
-use Rattle.drawing.specs.Settings.{settingAt, settingCount, Tabled, tableOf, settingsVerdict}
+use Rattle.setting_list.specs.Settings.{settingAt}
+use Rattle.setting_list.specs.Theorems.{GoodSettings, FirstBadSetting}
 use Rattle.drawing.specs.Strokes.{Drawing, tableIn, pathOf, firstRefused}
 use Rattle.drawing.specs.Film.{rowOf, film, bandOf, bandPut}
-
--- ---- the table
--- setting i can be defined: there is an aperture for it, and it is within the limits
-pub record GoodSetting (l : List ℕ) (i : ℕ) : Type 0 where
-  pub number : ¬ NoNumber (10 + i)
-  pub limits : ¬ BadSetting (settingAt l i)
-
-abbrev pub GoodSettings : List ℕ → Type 0
-GoodSettings l = (i : ℕ) → i < settingCount l → GoodSetting l i
-
--- setting `place` is the first that cannot be defined: those before it can, and it gets 6 as a 33rd, or 1 for being outside the limits
-pub record FirstBadSetting (l : List ℕ) (number place : ℕ) : Type 0 where
-  pub one : place < settingCount l
-  pub earlier : (i : ℕ) → i < place → GoodSetting l i
-  pub exactly : (NoNumber (10 + place) × (number ≡ 6)) ⊎ (¬ NoNumber (10 + place) × (BadSetting (settingAt l place) × (number ≡ 1)))
-
--- "only defining and removing change it. Statements speak of tables so made"; 0 says that every setting stands in the table, the first as aperture 10
-pub record MadeTable (l : List ℕ) (r : Tabled) : Type 0 where
-  pub reachable : Reachable (r .table)
-  pub holds : r .refusal ≡ 0 → (i : ℕ) → i < settingCount l → Holds (r .table) (10 + i) (settingAt l i)
-  pub refused : ¬ (r .refusal ≡ 0) → FirstBadSetting l (r .refusal) (r .place)
-  pub none : ¬ (r .refusal ≡ 0) → r .table ≡ empty
-
-abbrev pub TableMade : Type 0
-TableMade = (l : List ℕ) → MadeTable l (tableOf l)
-
--- which setting is told: the first that is refused, with its number and its place in the list
-pub data SettingTold (l : List ℕ) : Verdict → Type 0 where
-  good : GoodSettings l → SettingTold l Passed
-  bad : (number place : ℕ) → FirstBadSetting l number place → SettingTold l (Refused number place)
-
-abbrev pub SettingsTold : Type 0
-SettingsTold = (l : List ℕ) → SettingTold l (settingsVerdict l)
 
 -- ---- the refusals
 -- the row call of stroke k, asked for row 0, with room for the row; what such a call refuses, PackedRefuses (demands) says

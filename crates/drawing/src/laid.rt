@@ -1,11 +1,11 @@
 // A band of a film: its bytes are cleared, and the strokes laid over them one after the other.
-use crate::settings::number;
 use crate::strokes::span_of;
+use setting_list::number;
 ghost use mathlib.Core.Path.{_≡_};
 ghost use Prim.Native.Nat.{_-_, _*_, _≤_, _<_, _^_};
 ghost use lib.ListN.{length, replicate};
 ghost use Rattle.band.specs.Band.{bandCall};
-ghost use Rattle.drawing.specs.Settings.{settingAt};
+ghost use Rattle.setting_list.specs.Settings.{settingAt};
 ghost use Rattle.drawing.specs.Strokes.{drawingOf};
 ghost use Rattle.drawing.specs.Film.{bandOf, Drawn};
 

@@ -2,12 +2,13 @@
 // A drawing is four lists: the settings of the apertures from 10 on, w, p, q of each; the aperture of
 // each stroke; where each stroke's entries start, with the end of the last; the entries of all.
 //
-// The way of the data: the settings are checked (settings) and then each stroke (strokes); and of a
+// The way of the data: the settings are checked (setting_list) and then each stroke (strokes); and of a
 // film that passes any band can be put, so that a film of any size is written with little memory.
 // Its bytes are cleared, and the strokes laid over them (laid).
 use checks::Answer;
 use limits::Verdict;
-use settings::held_count;
+use setting_list::held_count;
+use setting_list::settings_check;
 use strokes::span_of;
 use strokes::stroke_check;
 ghost use mathlib.Core.Path.{_≡_};
@@ -17,11 +18,7 @@ ghost use Rattle.drawing.specs.Strokes.{drawingOf, firstRefused, filmVer
 ghost use Rattle.drawing.specs.Film.{bandVerdict, bandPut};
 
 mod laid;
-mod settings;
 mod strokes;
-
-pub use settings::settings_check;
-pub use settings::table;
 
 // Whether a row call takes every stroke; or the index of the first that it refuses, with document
 // 01's number and place.

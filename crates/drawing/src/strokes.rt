@@ -1,6 +1,6 @@
 // One stroke of a drawing: where its entries stand, and what is checked of it.
-use crate::settings::is_held;
 use limits::Verdict;
+use setting_list::is_held;
 ghost use mathlib.Core.Path.{_≡_};
 ghost use Prim.Native.Nat.{_+_, _<_, _^_};
 ghost use lib.ListN.{getD};

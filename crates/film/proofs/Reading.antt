@@ -6,7 +6,7 @@ use mathlib.Core.List.{List}
 use lib.ListN.{replicate, set}
 use lib.IntN.{ℤ, pos}
 use Rattle.aperture.specs.declared.Table.{Table}
-use Rattle.drawing.specs.Settings.{tableOf}
+use Rattle.setting_list.specs.Settings.{tableOf}
 use Rattle.scan.specs.declared.Gap.the-variants as gap·
 use Rattle.scan.specs.declared.Mode.the-variants.{Outside}
 use Rattle.gerber.specs.declared.Reader.{Reader}

@@ -6,7 +6,7 @@ use Rattle.setting.specs.Setting.{taken}
 use Rattle.setting.specs.Answer.{checked}
 use Rattle.aperture.specs.Table.{defined, looked}
 use Rattle.checks.specs.Checks.{coordinateFrom}
-use Rattle.drawing.specs.Settings.{tabledFrom}
+use Rattle.setting_list.specs.Settings.{tabledFrom}
 use Rattle.drawing.specs.Strokes.{pathOf, firstFrom}
 use Rattle.output.proofs.Order.{passes, put}
 use Rattle.film.specs.Legend.{settings, strokes, legend}

@@ -28,7 +28,7 @@ fn read(entries: &mut [i32], apertures: &mut [u64], starts: &mut [usize]) -> Fin
 {
     let settings = legend::SETTINGS;
     let text = legend::TEXT;
-    let table = drawing::table(&settings);
+    let table = setting_list::table(&settings);
     let begun = gather::start(legend::UNIT);
     let gathering = gather::gather(begun, table, &text, entries, apertures, starts);
     gather::finish(gathering, starts)

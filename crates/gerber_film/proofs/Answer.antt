@@ -8,7 +8,7 @@ use mathlib.Core.Option.{Option, none, some}
 use borrow.Author.Tests.{ne-eqb}
 use Rattle.limits.specs.declared.Verdict.the-variants as verdict·
 use Rattle.aperture.specs.declared.Table.{Table}
-use Rattle.drawing.specs.Settings.{tableOf}
+use Rattle.setting_list.specs.Settings.{tableOf}
 use Rattle.chunks.specs.Machine.{goes, gives, fails, ahead, read}
 use Rattle.gerber.specs.declared.Fed.{Fed}
 use Rattle.gerber.specs.declared.Given.{Given}

@@ -17,7 +17,7 @@ use Rattle.checks.specs.Checks.{rasterVerdict, rowVerdict}
 use Rattle.aperture.specs.declared.Table.{Table}
 use Rattle.aperture.specs.Table.{isHeld, looked, lookedVerdict}
 use Rattle.drawing.specs.declared.StrokeVerdict.the-variants.{AllTaken}
-use Rattle.drawing.specs.Settings.{tableOf}
+use Rattle.setting_list.specs.Settings.{tableOf}
 use Rattle.drawing.specs.Strokes.{Drawing, tableIn, rowZeroVerdict, strokeVerdict, firstFrom, strokesVerdict}
 use Rattle.drawing.proofs.Drawable.{both}
 use Rattle.drawing.proofs.Taken.{no-stroke, stroke-taken}

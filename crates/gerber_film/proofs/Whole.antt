@@ -15,7 +15,7 @@ use Rattle.limits.specs.declared.Verdict.{Verdict}
 use Rattle.limits.specs.declared.Verdict.the-variants as verdict·
 use Rattle.aperture.specs.declared.Table.{Table}
 use Rattle.aperture.specs.Table.{isHeld}
-use Rattle.drawing.specs.Settings.{tableOf}
+use Rattle.setting_list.specs.Settings.{tableOf}
 use Rattle.drawing.specs.Strokes.{Drawing, pathOf}
 use Rattle.drawing.proofs.Taken.{spans}
 use Rattle.language.specs.Grammar.{first, Placed, Reads, said}

@@ -7,7 +7,7 @@ use mathlib.Core.Option.{Option}
 use lib.ListN.{length, take}
 use lib.IntN.{ℤ, pos}
 use Rattle.aperture.specs.Table.{isHeld}
-use Rattle.drawing.specs.Settings.{tableOf}
+use Rattle.setting_list.specs.Settings.{tableOf}
 use Rattle.drawing.specs.Strokes as drawing·
 use Rattle.units.specs.Units.{isUnit}
 use Rattle.language.specs.Grammar.{Placed, said}

@@ -12,7 +12,7 @@ use lib.ListN.{length, getD}
 use lib.IntN.{ℤ}
 use Rattle.limits.specs.declared.Verdict.the-variants as verdict·
 use Rattle.drawing.specs.declared.StrokeVerdict.the-variants.{AllTaken}
-use Rattle.drawing.specs.Settings.{settingsVerdict}
+use Rattle.setting_list.specs.Settings.{settingsVerdict}
 use Rattle.drawing.specs.Strokes.{Drawing, pathOf, firstRefused, filmVerdict}
 use Rattle.language.specs.Grammar.{first, Placed, Reads}
 use Rattle.gerber.specs.Reader.{Fault, finished}

@@ -112,7 +112,7 @@ pub fn read(
     apertures: &mut [u64],
     starts: &mut [usize],
 ) -> Intake {
-    let table = drawing::table(settings);
+    let table = setting_list::table(settings);
     let start = Turn {
         gathering: gather::start(unit),
         marks: marks::begin(),

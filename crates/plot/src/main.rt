@@ -95,7 +95,7 @@ fn draw_file(unit: u64, columns: u64, rows: u64, first: u64, n: u64, settings: &
 
 // All that can be refused before the file is read: the settings (1), N (1), the raster (4), the rows (5).
 fn plot(unit: u64, columns: u64, rows: u64, first: u64, n: u64, settings: &[u64]) {
-    let of_settings = drawing::settings_check(settings);
+    let of_settings = setting_list::settings_check(settings);
     if let Verdict::Refused(number, place) = of_settings {
         return refusal::tell_setting(number, place);
     }

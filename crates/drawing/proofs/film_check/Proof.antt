@@ -8,7 +8,7 @@ use Rattle.limits.specs.Refusal.{_then_}
 use Rattle.limits.proofs.Verdicts.{goes-on, stops}
 use Rattle.checks.specs.Checks.{rasterVerdict}
 use Rattle.drawing.specs.declared.StrokeVerdict.{StrokeVerdict}
-use Rattle.drawing.specs.Settings.{settingsVerdict}
+use Rattle.setting_list.specs.Settings.{settingsVerdict}
 use Rattle.drawing.specs.Strokes.{strokesVerdict}
 use Rattle.drawing.proofs.film_check.Statement.{statement}
 use Rattle.drawing.proofs.film_check.Tie as tie

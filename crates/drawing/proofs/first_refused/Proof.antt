@@ -7,9 +7,9 @@ use mathlib.Core.List.{List}
 use lib.ListN.{length, getD}
 use lib.IntN.{ℤ}
 use denote.Ref.{now}
-use Rattle.drawing.specs.Settings.{heldCount}
+use Rattle.setting_list.specs.Settings.{heldCount}
 use Rattle.drawing.specs.Strokes.{Drawing, drawingOf, pathOf, strokeVerdict, firstFrom, firstRefused, heldVerdict}
-use Rattle.drawing.proofs.Held.{checked-alike}
+use Rattle.drawing.proofs.Alike.{checked-alike}
 use Rattle.drawing.proofs.Taken.{no-stroke, stroke-taken, stroke-refused}
 use borrow.Author.Needs.{needs}
 use Rattle.drawing.proofs.first_refused.Statement.{statement}

@@ -15,7 +15,7 @@ use Rattle.units.specs.Units.{inUnits}
 use Rattle.gerber.specs.Reader.{started, obeyed, acted, stepOf, finished}
 use Rattle.gather.specs.declared.Finished.the-variants.{Done}
 use Rattle.gather.specs.Gather.{Gathered, Ended, noted, allNoted, gathered, finishing}
-use Rattle.drawing.specs.Settings.{tabledFrom, tableOf}
+use Rattle.setting_list.specs.Settings.{tabledFrom, tableOf}
 use Rattle.film.specs.Legend.{settings, strokes, legend}
 use Rattle.film.proofs.Reading.{leftBy, reads, leftLegend, ended-legend}
 use Rattle.film.proofs.read.Statement.{statement}

@@ -9,7 +9,7 @@ use denote.Ref.{now}
 use borrow.Author.Needs.{needs}
 use Rattle.band.specs.Band.{bandCall}
 use Rattle.bits.specs.Bits.{packedLength}
-use Rattle.drawing.specs.Settings.{settingAt}
+use Rattle.setting_list.specs.Settings.{settingAt}
 use Rattle.drawing.specs.Strokes.{Drawing, drawingOf, pathOf}
 use Rattle.drawing.specs.Film.{bandUpTo}
 use Rattle.drawing.proofs.Drawable.{Passes, band-passes, aperture-small}

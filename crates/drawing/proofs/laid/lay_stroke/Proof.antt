@@ -6,7 +6,7 @@ use borrow.Author.Needs.{needs}
 use Rattle.setting.specs.declared.Setting.{Setting}
 use Rattle.checks.specs.Answer.{Result}
 use Rattle.band.specs.Band.{bandCall}
-use Rattle.drawing.proofs.Held.{setting-is}
+use Rattle.setting_list.proofs.Held.{setting-is}
 use Rattle.drawing.proofs.laid.lay_stroke.Statement.{statement}
 use Rattle.drawing.proofs.laid.lay_stroke.Tie as tie
 

@@ -7,7 +7,7 @@ use setting::Checked;
 ghost use mathlib.Core.Path.{_≡_};
 ghost use Prim.Native.Nat.{_+_, _*_, _<_, _^_};
 ghost use lib.ListN.{getD};
-ghost use Rattle.drawing.specs.Settings.{settingCount, settingsVerdict, settingVerdict, tableOf, heldCount, isOneOf};
+ghost use Rattle.setting_list.specs.Settings.{settingCount, settingsVerdict, settingVerdict, tableOf, heldCount, isOneOf};
 
 // The number at index k; one that is missing counts as 0.
 pub fn number(settings: &[u64], k: usize) -> u64

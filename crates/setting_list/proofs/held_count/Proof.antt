@@ -3,9 +3,9 @@ use mathlib.Core.Path.{sym, ap, ap₂, _∙_}
 use denote.Ref.{now}
 use borrow.Author.Needs.{needs}
 use Rattle.limits.specs.declared.Verdict.{Verdict}
-use Rattle.drawing.specs.Settings.{settingCount, heldWhere}
-use Rattle.drawing.proofs.settings.held_count.Statement.{statement}
-use Rattle.drawing.proofs.settings.held_count.Tie as tie
+use Rattle.setting_list.specs.Settings.{settingCount, heldWhere}
+use Rattle.setting_list.proofs.held_count.Statement.{statement}
+use Rattle.setting_list.proofs.held_count.Tie as tie
 
 settings-check-requires : tie.Need-settings-check-requires
 settings-check-requires c κs = search needs

@@ -9,12 +9,12 @@ use Rattle.limits.specs.Sizes.{apertureMin}
 use Rattle.aperture.specs.declared.Table.{Table}
 use Rattle.aperture.specs.declared.Changed.{Changed}
 use Rattle.aperture.specs.Table.{empty, defined}
-use Rattle.drawing.specs.Settings.{settingAt, settingCount, Tabled, tabledFrom, tableOf}
-use Rattle.drawing.proofs.Defined.{none-left, next-defined, next-refused}
-use Rattle.drawing.proofs.Held.{setting-is}
+use Rattle.setting_list.specs.Settings.{settingAt, settingCount, Tabled, tabledFrom, tableOf}
+use Rattle.setting_list.proofs.Defined.{none-left, next-defined, next-refused}
+use Rattle.setting_list.proofs.Held.{setting-is}
 use borrow.Author.Needs.{needs}
-use Rattle.drawing.proofs.settings.table.Statement.{statement}
-use Rattle.drawing.proofs.settings.table.Tie as tie
+use Rattle.setting_list.proofs.table.Statement.{statement}
+use Rattle.setting_list.proofs.table.Tie as tie
 
 -- what is left to be defined gives the answer
 abbrev Inv-loop : tie.InvT-loop

@@ -6,10 +6,10 @@ use mathlib.Core.List.{List}
 use Prim.Native.Nat.{ℕ}
 use denote.Ref.{now}
 use borrow.Author.Needs.{needs}
-use Rattle.drawing.specs.Settings.{settingCount}
-use Rattle.drawing.proofs.Held.{Reached, reached-none, reached-more, reached-bad, reached-all}
-use Rattle.drawing.proofs.settings.settings_check.Statement.{statement}
-use Rattle.drawing.proofs.settings.settings_check.Tie as tie
+use Rattle.setting_list.specs.Settings.{settingCount}
+use Rattle.setting_list.proofs.Held.{Reached, reached-none, reached-more, reached-bad, reached-all}
+use Rattle.setting_list.proofs.settings_check.Statement.{statement}
+use Rattle.setting_list.proofs.settings_check.Tie as tie
 
 -- those before setting i passed
 abbrev Inv-loop : tie.InvT-loop

@@ -29,9 +29,9 @@ use Rattle.aperture.proofs.Numbers.{number-iff}
 use Rattle.aperture.proofs.Theorems.{defined-parts, others-kept}
 use Rattle.aperture.proofs.Delivered.{defined-gives, defining-keeps}
 use Rattle.aperture.proofs.Refusals.{define-refuses}
-use Rattle.drawing.specs.Settings.{settingAt, settingCount, Tabled, tabledFrom, tableOf, tabledVerdict}
-use Rattle.drawing.specs.Theorems.{GoodSetting, FirstBadSetting, MadeTable, TableMade, SettingTold, good, bad, SettingsTold}
-use Rattle.drawing.proofs.Defined.{none-left, next-defined, next-refused}
+use Rattle.setting_list.specs.Settings.{settingAt, settingCount, Tabled, tabledFrom, tableOf, tabledVerdict}
+use Rattle.setting_list.specs.Theorems.{GoodSetting, FirstBadSetting, MadeTable, TableMade, SettingTold, good, bad, SettingsTold}
+use Rattle.setting_list.proofs.Defined.{none-left, next-defined, next-refused}
 
 -- the first i settings of the list stand in the table, and no later aperture is in use
 pub record Begun (l : List ℕ) (i : ℕ) (t : Table) : Type 0 where

@@ -8,10 +8,10 @@ use borrow.Author.Needs.{needs}
 use Rattle.setting.specs.Answer.{checked}
 use Rattle.setting.proofs.Answers.{checked-taken, checked-refused}
 use Rattle.aperture.specs.Table.{isNumber}
-use Rattle.drawing.specs.Settings.{settingAt}
-use Rattle.drawing.proofs.Held.{no-number, outside, inside, setting-is}
-use Rattle.drawing.proofs.settings.setting_check.Statement.{statement}
-use Rattle.drawing.proofs.settings.setting_check.Tie as tie
+use Rattle.setting_list.specs.Settings.{settingAt}
+use Rattle.setting_list.proofs.Held.{no-number, outside, inside, setting-is}
+use Rattle.setting_list.proofs.setting_check.Statement.{statement}
+use Rattle.setting_list.proofs.setting_check.Tie as tie
 
 -- where the number has been checked, and where the setting has
 abbrev start : tie.After-within → tie.Start

@@ -3,8 +3,8 @@ use Prim.Native.Nat.{_-_}
 use borrow.Author.Tests.{le-leb, lt-leb}
 use lib.Dec.{leb, ltb}
 use Rattle.integers.proofs.Tests.{true-and, false-and}
-use Rattle.drawing.proofs.settings.is_held.Statement.{statement}
-use Rattle.drawing.proofs.settings.is_held.Tie as tie
+use Rattle.setting_list.proofs.is_held.Statement.{statement}
+use Rattle.setting_list.proofs.is_held.Tie as tie
 
 returns : tie.Need-returns
 returns c = let a = c .before .args in false-and (leb 10 (a .number)) (ltb (a .number - 10) (a .held)) (lt-leb 10 (a .number) (c .if1 .taken))

@@ -6,7 +6,7 @@ use borrow.Author.Tests.{eq-eqb, ne-eqb}
 use Rattle.limits.specs.Sizes.{apertureMin}
 use Rattle.aperture.specs.declared.Table.{Table}
 use Rattle.aperture.specs.Table.{empty, defined}
-use Rattle.drawing.specs.Settings.{settingAt, tabledFrom}
+use Rattle.setting_list.specs.Settings.{settingAt, tabledFrom}
 
 module _ (l : List ℕ) (i : ℕ) (t : Table) where
   pub none-left : record { refusal = 0; place = 0; table = t } ≡ tabledFrom l i 0 t

@@ -8,11 +8,10 @@ use mathlib.Core.Bool.{Bool, true, false}
 use mathlib.Core.List.{List}
 use lib.Dec.{leb, ltb}
 use lib.ListN.{getD}
-use lib.IntN.{ℤ}
 use borrow.Author.Tests.{le-leb, leb-true, lt-ltb, le-ltb, ltb-true}
 use Rattle.integers.proofs.Tests.{clash, and-both, and-true, and-false, same-test}
 use Rattle.limits.specs.Sizes.{apertureMin, places}
-use Rattle.limits.specs.Refusal.{setting, aperture, unless, unlessAt, _then_}
+use Rattle.limits.specs.Refusal.{setting, aperture, unlessAt, _then_}
 use Rattle.limits.specs.declared.Verdict.{Verdict}
 use Rattle.limits.specs.declared.Verdict.the-variants.{Passed, Refused}
 use Rattle.limits.proofs.Verdicts.{not-passed}
@@ -21,16 +20,14 @@ use Rattle.setting.specs.Setting.{taken}
 use Rattle.aperture.specs.declared.Place.{Place}
 use Rattle.aperture.specs.declared.Table.{Table}
 use Rattle.aperture.specs.declared.Changed.{Changed}
-use Rattle.aperture.specs.Table.{isNumber, isHeld, empty, defined, looked, lookedVerdict}
+use Rattle.aperture.specs.Table.{isNumber, isHeld, empty, defined}
 use Rattle.aperture.specs.Table as tables·
 use Rattle.aperture.specs.Reachable.{Holds}
 use Rattle.aperture.proofs.Numbers.{number-iff, held-parts}
-use Rattle.aperture.proofs.Answers.{not-number, not-taken, stores, looks-nowhere, looks-at}
-use Rattle.checks.specs.Checks.{callVerdict}
-use Rattle.drawing.specs.Settings.{settingAt, settingCount, Tabled, tabledFrom, tableOf, settingsVerdict, tabledVerdict, settingVerdict, heldWhere, heldCount, isOneOf}
-use Rattle.drawing.specs.Strokes.{rowZeroVerdict, heldVerdict}
-use Rattle.drawing.proofs.Defined.{none-left, next-defined, next-refused}
-use Rattle.drawing.proofs.Made.{Begun, Ended, whole, broken, none-free, begin, more, table-ended, tabled-passed, tabled-refused}
+use Rattle.aperture.proofs.Answers.{not-number, not-taken, stores}
+use Rattle.setting_list.specs.Settings.{settingAt, settingCount, Tabled, tabledFrom, tableOf, settingsVerdict, tabledVerdict, settingVerdict, heldWhere, heldCount, isOneOf}
+use Rattle.setting_list.proofs.Defined.{none-left, next-defined, next-refused}
+use Rattle.setting_list.proofs.Made.{Begun, Ended, whole, broken, none-free, begin, more, table-ended, tabled-passed, tabled-refused}
 
 -- ---- the checks of one setting
 module _ (l : List ℕ) (i : ℕ) where
@@ -169,15 +166,3 @@ module _ (l : List ℕ) (n : ℕ) where
           let at : 10 + (n - 10) ≡ n = omega (arith, leb-true 10 n (h .0)) in
           subst (λ (x : ℕ). Holds (tableOf l .table) x (settingAt l (n - 10))) at (b .holds (n - 10) (ltb-true (n - 10) (settingCount l) (h .1)))
       go (broken i t h b z q) = absurd (clash (sym (ap held q) ∙ e) (and-false (isNumber n) _ (none-free places (n - apertureMin))))
-
--- ---- the checks of a stroke
-looked-is : (t : Table) (n : ℕ) → lookedVerdict (looked t n) ≡ unless (isHeld t n) aperture
-looked-is t n = go (isHeld t n) refl
-  where
-    go : (h : Bool) → isHeld t n ≡ h → lookedVerdict (looked t n) ≡ unless h aperture
-    go true e = ap lookedVerdict (looks-at t n e)
-    go false e = ap lookedVerdict (looks-nowhere t n e)
-
-pub checked-alike : (l : List ℕ) (n : ℕ) (path : List ℤ) (columns rows : ℕ) → heldVerdict (heldCount l) n path columns rows ≡ rowZeroVerdict (tableOf l .table) n path columns rows
-checked-alike l n path columns rows =
-    ap (λ (v : Verdict). callVerdict v path columns rows 0) (ap (λ (h : Bool). unless h aperture) (sym (held-is l n)) ∙ sym (looked-is (tableOf l .table) n))

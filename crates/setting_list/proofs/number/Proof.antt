@@ -3,8 +3,8 @@ use mathlib.Core.Path.{sym}
 use lib.ListN.{List·getD-eq-default}
 use denote.Ref.{now}
 use borrow.Author.Needs.{needs}
-use Rattle.drawing.proofs.settings.number.Statement.{statement}
-use Rattle.drawing.proofs.settings.number.Tie as tie
+use Rattle.setting_list.proofs.number.Statement.{statement}
+use Rattle.setting_list.proofs.number.Tie as tie
 
 mul-result : tie.Need-mul-result
 mul-result c = search needs
