@@ -22,7 +22,7 @@ fn dot(out: &mut [u8]) -> Answer
     let apertures = [10];
     let starts = [0, 2];
     let entries = [32, 16];
-    drawing::put_band(&settings, &apertures, &starts, &entries, 5, 3, 0, 3, out)
+    film_band::put_band(&settings, &apertures, &starts, &entries, 5, 3, 0, 3, out)
 }
 
 fn main() {

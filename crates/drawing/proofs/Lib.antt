@@ -1,24 +1,20 @@
 -- What is proved of strokes and bands.
---   Rows       rows one under the other, and a row one stroke more at a time
---   Alike      the checks of a stroke without a table
+--   Rows       rows one under the other
 --   Taken      the strokes, one more at a time
 --   Put        the band's length, and its rows
 --   Told       which stroke is refused
 --   Drawable   what an answer 0 says of the strokes
 --   Packed     rows laid over each other
---   Layers     a band, one stroke more at a time
 --   Refusals   what is answered of a band
 --   Bits       each bit of the band, in the buffer at exit
 --   Bands      the film by its bands
 --   Dot        document 01's whole file
 pub mod Rows
-pub mod Alike
 pub mod Taken
 pub mod Put
 pub mod Told
 pub mod Drawable
 pub mod Packed
-pub mod Layers
 pub mod Refusals
 pub mod Bits
 pub mod Bands

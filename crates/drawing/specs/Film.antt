@@ -1,11 +1,9 @@
 -- The film of a drawing, that is the strokes' packed rows laid over each other; and some neighbouring rows of it, a band.
 use Prim.Native.Nat.{ℕ, zero, suc, _+_}
-use mathlib.Core.Path.{_≡_}
 use mathlib.Core.List.{List}
 use lib.ListN.{length, getD, replicate}
 use lib.IntN.{ℤ}
 use Rattle.limits.specs.declared.Verdict.{Verdict}
-use Rattle.limits.specs.declared.Verdict.the-variants.{Passed}
 use Rattle.limits.specs.Refusal.{_then_}
 use Rattle.aperture.specs.declared.Table.{Table}
 use Rattle.checks.specs.Checks.{rowVerdict}
@@ -44,12 +42,6 @@ bandVerdict d columns rows first n = filmVerdict d columns rows then rowVerdict 
 abbrev pub bandPut : Drawing → ℕ → ℕ → ℕ → ℕ → List ℕ → Result ℕ
 bandPut d columns rows first n b = given (bandVerdict d columns rows first n) (fileOffer (bandOf d columns rows first n) b)
 
--- ---- what the code is asked
 -- a band with the first k strokes
 abbrev pub bandUpTo : Drawing → ℕ → ℕ → ℕ → ℕ → ℕ → List ℕ
 bandUpTo d columns rows first n k = topFirst n (λ j. rowUpTo d columns rows (first + j) (packedLength columns) k)
-
--- a band that is drawn: all checks are passed, and so many bytes are a row
-pub record Drawn (d : Drawing) (columns rows first n width : ℕ) : Type 0 where
-  pub passed : bandVerdict d columns rows first n ≡ Passed
-  pub wide : width ≡ packedLength columns

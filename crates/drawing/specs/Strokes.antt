@@ -9,13 +9,13 @@ use lib.Seq.{slice}
 use lib.IntN.{ℤ}
 use Rattle.limits.specs.declared.Verdict.{Verdict}
 use Rattle.limits.specs.declared.Verdict.the-variants.{Passed, Refused}
-use Rattle.limits.specs.Refusal.{aperture, unless, _then_}
+use Rattle.limits.specs.Refusal.{_then_}
 use Rattle.checks.specs.Checks.{rasterVerdict, callVerdict}
 use Rattle.aperture.specs.declared.Table.{Table}
 use Rattle.aperture.specs.Table.{looked, lookedVerdict}
 use Rattle.drawing.specs.declared.StrokeVerdict.{StrokeVerdict}
 use Rattle.drawing.specs.declared.StrokeVerdict.the-variants.{AllTaken, Stroke}
-use Rattle.setting_list.specs.Settings.{tableOf, settingsVerdict, isOneOf}
+use Rattle.setting_list.specs.Settings.{tableOf, settingsVerdict}
 
 -- the settings of the apertures, the aperture of each stroke, where each stroke's entries start, with the end of the last, and the entries of all
 pub record Drawing : Type 0 where
@@ -63,11 +63,6 @@ strokesVerdict (Stroke k number place) = Refused number place
 -- the settings, the strokes, and then the raster by itself: 4 is told of a drawing without strokes too
 abbrev pub filmVerdict : Drawing → ℕ → ℕ → Verdict
 filmVerdict d columns rows = settingsVerdict (d .settings) then strokesVerdict (firstRefused d columns rows) then rasterVerdict columns rows
-
--- ---- what the code is asked
--- the checks of a stroke, where so many apertures are held
-abbrev pub heldVerdict : ℕ → ℕ → List ℤ → ℕ → ℕ → Verdict
-heldVerdict held n path columns rows = callVerdict (unless (isOneOf held n) aperture) path columns rows 0
 
 -- the entries from `first` on and before `end` are the path of stroke k
 pub record Spans (starts : List ℕ) (entries : List ℤ) (k first end : ℕ) : Type 0 where

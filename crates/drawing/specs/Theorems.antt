@@ -1,5 +1,5 @@
--- What the calls of this crate promise, in document 01's words, from their answers alone: nothing is asked of a drawing. The claims are types; each is proved in
--- proofs/ under its name in small letters.
+-- What the calls for a film promise (crates film_checks and film_band), in document 01's words, from their answers alone: nothing is asked of a drawing. The claims
+-- are types; each is proved in proofs/ under its name in small letters.
 --
 -- Why it is true: every stroke is checked as a row call of it checks, before anything is drawn. So where the answer is 0 each aperture holds a setting and that
 -- setting's pen, and each path is drawn in every row; the rows laid over each other have a bit set where some stroke makes the pixel black.

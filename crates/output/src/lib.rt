@@ -45,7 +45,7 @@ fn put_next(
 {
     let n = rows_of(columns, left);
     let lowest = first + (left - n);
-    drawing::put_band(
+    film_band::put_band(
         settings,
         apertures,
         starts,
@@ -158,9 +158,9 @@ pub fn write(
         bandVerdict (drawingOf (now (settings .entry)) (now (apertures .entry)) (now (starts .entry)) (now (entries .entry))) columns rows first n ≡ Passed) ⌝ }
 {
     let mut out = [0u8; BAND];
-    let of_rows = drawing::rows_check(rows, first, n);
+    let of_rows = film_checks::rows_check(rows, first, n);
     if let Verdict::Refused(_, _) = of_rows {
-        let answer = drawing::put_band(
+        let answer = film_band::put_band(
             settings,
             apertures,
             starts,

@@ -106,7 +106,7 @@ fn plot(unit: u64, columns: u64, rows: u64, first: u64, n: u64, settings: &[u64]
     if let Verdict::Refused(number, _) = of_raster {
         return refusal::tell_raster(number);
     }
-    let of_rows = drawing::rows_check(rows, first, n);
+    let of_rows = film_checks::rows_check(rows, first, n);
     if let Verdict::Refused(number, _) = of_rows {
         return refusal::tell_rows(number);
     }

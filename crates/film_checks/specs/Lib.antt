@@ -1,0 +1,2 @@
+-- Code: what only the code is asked; the checks of a film are defined in drawing.
+pub mod Code
