@@ -6,6 +6,8 @@
 --   Whole      a file's lists: no stroke is lost, and they hold what W4's sentences give
 --   Answer     the answer at the file's end
 --   Taken      no stroke of them is refused
+--   Started    where the scanner's last command starts
+--   Told       the mark that a refusal is told with
 pub mod Noted
 pub mod Ends
 pub mod Long
@@ -13,3 +15,5 @@ pub mod Paths
 pub mod Whole
 pub mod Answer
 pub mod Taken
+pub mod Started
+pub mod Told

@@ -4,6 +4,9 @@ use aperture::Table;
 use gather::Finished;
 use gather::Gathering;
 use marks::Marks;
+ghost use mathlib.Core.Path.{_≡_};
+ghost use Rattle.gather.specs.Gather.{gathered};
+ghost use Rattle.marks.specs.Marks.{advanced};
 
 // Whole: so many strokes are in the lists. Told: there is no film, and it has been told why.
 pub enum Intake {
@@ -29,7 +32,11 @@ fn take(
     path: &mut [i32],
     apertures: &mut [u64],
     starts: &mut [usize],
-) -> Turn {
+) -> Turn
+    ensures gathered { λ r. ⌜ record { gathering = r .gathering; path = now (path .exit); apertures = now (apertures .exit); starts = now (starts .exit) }
+        ≡ gathered (turn .gathering) table (now (chunk .entry)) (now (path .entry)) (now (apertures .entry)) (now (starts .entry)) ⌝ }
+    ensures marked { λ r. ⌜ r .marks ≡ advanced (turn .marks) (now (chunk .entry)) (r .gathering .reader .scanner .start) ⌝ }
+{
     let before = turn.gathering;
     let m = turn.marks;
     let after = gather::gather(before, table, chunk, path, apertures, starts);
