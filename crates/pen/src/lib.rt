@@ -1,7 +1,7 @@
 // The pen of a setting: the convex polygon of document 01, "Building the pen".
 //
 // The way of the data: a setting is checked (crate setting), the corners of its lower right quarter
-// are cut one after the other (crate quarter), and the quarter is mirrored into the whole polygon
+// are cut one after the other (crate cutting), and the quarter is mirrored into the whole polygon
 // (polygon). What each function promises is cited from specs/.
 use limits::BAD_SETTING;
 use limits::DONE;
@@ -35,7 +35,7 @@ pub fn build(w: u64, p: u64, q: u64) -> Built
             pen: polygon::none(),
         };
     };
-    let lower_right = quarter::build(s);
+    let lower_right = cutting::build(s);
     Built {
         refusal: DONE,
         pen: polygon::mirrored(lower_right),

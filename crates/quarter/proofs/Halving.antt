@@ -10,10 +10,10 @@ use lib.Dec.{leb}
 use Rattle.setting.specs.declared.Setting.{Setting}
 use Rattle.setting.specs.Setting.{Taken}
 use Rattle.quarter.specs.declared.Edge.{Edge}
-use Rattle.quarter.specs.declared.root.Interval.{Interval}
+use Rattle.quarter.specs.declared.Interval.{Interval}
 use Rattle.quarter.specs.NearRoot.{norm, lower, nearRoot}
 use Rattle.quarter.specs.Cutting.{amount}
-use Rattle.quarter.specs.Held.{Summed}
+use Rattle.quarter.specs.Moment.{Summed}
 use Rattle.quarter.specs.Tries.{middle, halved}
 use Rattle.quarter.proofs.NearRoot.{nearRoot-found}
 

@@ -1,5 +1,5 @@
--- Arrays that hold a list's numbers from their start: a store past the last is a number more. What the list is of does not matter: corners here, points
--- in the crate pen.
+-- Arrays that hold a list's numbers from their start: a store past the last is a number more. What the list is of does not matter: corners in the
+-- crate cutting, points in the crate pen.
 use Prim.Native.Nat.{ℕ, zero, suc, _+_, _-_, _≤_, _<_}
 use mathlib.Core.Path.{_≡_, refl, sym, subst, _∙_}
 use mathlib.Core.List.{List, [], _∷_, _++_, map, map-append, List·Memᴰ·head, List·Memᴰ·tail}
@@ -9,10 +9,7 @@ use lib.Seq.{set-append-seam, append-snoc}
 use lib.IntN.{ℤ, pos}
 use Rattle.integers.specs.Count.{_∈_}
 use Rattle.integers.specs.Bound.{Abs}
-use Rattle.limits.specs.Sizes.{quarterMax}
-use Rattle.quarter.specs.Cutting.{Corner}
-use Rattle.quarter.specs.Answer.{laid, across, upwards, quarterOf}
-use Rattle.quarter.specs.Held.{stored}
+use Rattle.quarter.specs.Answer.{laid}
 
 laid-more : (n : ℕ) (l : List ℤ) (a : ℤ) → length l < n → set (laid n l) (length l) a ≡ laid n (l ++ (a ∷ []))
 laid-more n l a h = go (n - length l) refl
@@ -31,10 +28,6 @@ laid-corner n f cs z h =
 
 pub count-snoc : {A : Type 0} (cs : List A) (z : A) → length cs + 1 ≡ length (cs ++ (z ∷ []))
 count-snoc cs z = sym (length-append cs (z ∷ []))
-
--- the quarter's arrays with a corner more
-pub stored-quarter : (cs : List Corner) (c : Corner) → length cs < quarterMax → stored (quarterOf cs) (across c) (upwards c) ≡ quarterOf (cs ++ (c ∷ []))
-stored-quarter cs c h = rw (count-snoc cs c, laid-corner quarterMax across cs c h, laid-corner quarterMax upwards cs c h)
 
 -- the arrays are full, and hold nothing further out than the list
 pub laid-long : {A : Type 0} (n : ℕ) (f : A → ℤ) (cs : List A) → length cs ≤ n → length (laid n (map f cs)) ≡ n

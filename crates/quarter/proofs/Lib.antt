@@ -6,7 +6,7 @@
 --   Nearest, Rules                          the quarter is what the rules of specs/Steps put out
 --   Unique, Lines                           and they put out nothing else; what they come to lies on its lines
 --   Halving, Tries                          the search for the near root by halves, and how many values it tries
---   Most, Depth, Stack, Laid                for the code: bounds of machine numbers, the stack and how deep it gets, arrays of corners
+--   Most, Depth, Laid                       for the code (crate cutting): bounds of machine numbers, how many edges come after a corner, arrays
 --   Cornered                                the answer, by the check of the setting
 pub mod Slope
 pub mod Naturals
@@ -29,6 +29,5 @@ pub mod Halving
 pub mod Tries
 pub mod Theorems
 pub mod Depth
-pub mod Stack
 pub mod Laid
 pub mod Cornered

@@ -10,8 +10,7 @@ use Rattle.setting.specs.declared.Setting.{Setting}
 use Rattle.setting.specs.Setting.{Taken}
 use Rattle.quarter.specs.declared.Edge.{Edge}
 use Rattle.quarter.specs.NearRoot.{norm}
-use Rattle.quarter.specs.Moment.{Small}
-use Rattle.quarter.specs.Held.{Summed}
+use Rattle.quarter.specs.Moment.{Small, Summed}
 
 pub fit : {n b : ℕ} → n ≤ b → T (ltb b (2 ^ 64)) → Fits w64 n
 fit {n} {b} h t = record { fits = lt-of-le-of-lt h (ltb→lt b (2 ^ 64) t) }

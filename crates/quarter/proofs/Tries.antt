@@ -8,11 +8,10 @@ use lib.ListN.{length}
 use Rattle.setting.specs.declared.Setting.{Setting}
 use Rattle.setting.specs.Setting.{Taken}
 use Rattle.quarter.specs.declared.Edge.{Edge}
-use Rattle.quarter.specs.declared.root.Interval.{Interval}
-use Rattle.quarter.specs.Held.{Summed}
+use Rattle.quarter.specs.declared.Interval.{Interval}
 use Rattle.quarter.specs.NearRoot.{norm, lower, nearRoot}
 use Rattle.quarter.specs.Cutting.{Corner, State, amount}
-use Rattle.quarter.specs.Moment.{Moment}
+use Rattle.quarter.specs.Moment.{Moment, Summed}
 use Rattle.quarter.specs.Tries.{middle, halved, Search, one, more, sought, SearchAt}
 use Rattle.quarter.proofs.Halving.{brought, halved-shrinks, one-fewer, halved-keeps, reduced}
 use Rattle.quarter.proofs.Most.{summed}

@@ -2,7 +2,7 @@
 --   NearRoot, Cutting   the near root, and steps 1 to 5 as definitions that compute: the quarter
 --   Steps               the same steps as rules, to hold against document 01's words: they stand by themselves, over whole numbers, y upwards
 --   Answer              the quarter as the code's arrays hold it
---   Moment, Held        the quarter on the way, and the code's structs in these words
+--   Moment              the quarter on the way
 --   Tries               the search for the near root by halves (document 02, W3)
 --   Theorems            what is proved
 pub mod NearRoot
@@ -10,6 +10,5 @@ pub mod Cutting
 pub mod Steps
 pub mod Answer
 pub mod Moment
-pub mod Held
 pub mod Tries
 pub mod Theorems

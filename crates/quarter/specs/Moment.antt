@@ -33,6 +33,11 @@ pub record Small (e : Edge) : Type 0 where
   pub l1-small : e .l1 ≤ 64
   pub l2-small : e .l2 ≤ 64
 
+-- the sum of the directions of two small edges
+pub record Summed (u v : ℕ) : Type 0 where
+  pub u-small : u ≤ 64
+  pub v-small : v ≤ 64
+
 -- at the corner (x, y) between L and R a cut by s leaves no number below 0
 pub record Cuttable (x y s : ℕ) (L R : Edge) : Type 0 where
   pub left : s ≤ L .l2

@@ -8,7 +8,7 @@ use Rattle.limits.specs.Sizes.{quarterMax}
 use Rattle.setting.specs.declared.Setting.{Setting}
 use Rattle.setting.specs.Setting.{Taken}
 use Rattle.quarter.specs.declared.Edge.{Edge}
-use Rattle.quarter.specs.declared.root.Interval.{Interval}
+use Rattle.quarter.specs.declared.Interval.{Interval}
 use Rattle.quarter.specs.NearRoot.{NearRoot, nearRoot}
 use Rattle.quarter.specs.Cutting.{Corner, State, amount, step, put, on, quarter}
 use Rattle.quarter.specs.Steps.{EdgeZ, CornerZ, startCorner, startBefore, startAfter, Puts, Comes, On, Lie}

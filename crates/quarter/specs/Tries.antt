@@ -7,7 +7,7 @@ use mathlib.Core.List.{List, [], _∷_}
 use lib.Dec.{leb}
 use Rattle.setting.specs.declared.Setting.{Setting}
 use Rattle.quarter.specs.declared.Edge.{Edge}
-use Rattle.quarter.specs.declared.root.Interval.{Interval}
+use Rattle.quarter.specs.declared.Interval.{Interval}
 use Rattle.quarter.specs.NearRoot.{norm, lower}
 
 -- the middle value; of an even number of values the upper one
