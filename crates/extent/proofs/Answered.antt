@@ -21,6 +21,11 @@ use Rattle.extent.specs.Answer.{seg, allowed, answered, extentOf}
 use Rattle.extent.specs.Held.{start, Near, ends, fromRow}
 use Rattle.extent.proofs.FromRow.{narrowed-from, reached-from}
 
+-- ---- the same ends have the same extent
+pub same-extent : (cs : List Pt) (j : ℕ) {ax ay bx by ax′ ay′ bx′ by′ : ℤ} → ax ≡ ax′ → ay ≡ ay′ → bx ≡ bx′ → by ≡ by′ →
+    extentOf cs ax ay bx by j ≡ extentOf cs ax′ ay′ bx′ by′ j
+same-extent cs j a b c d = cc
+
 -- ---- numbers within the limits
 range-small : (z : ℤ) → inRange z ≡ true → Abs z (2 ^ 18)
 unfolding inRange

@@ -1,22 +1,16 @@
 -- The flanks are set up for the path's segment, and rise to the row.
-use Prim.Native.Nat.{ℕ, _+_, _-_, _^_, _<_}
+use Prim.Native.Nat.{ℕ, _+_, _-_}
 use mathlib.Core.Path.{_≡_, _∙_}
 use mathlib.Core.List.{List}
 use lib.ListN.{length, getD}
 use lib.IntN.{ℤ, pos}
-use lib.Signed.{mag}
 use mir.Syntax.{w32}
-use mir.Val.{toZ, ofZ, hbits}
-use borrow.Author.Needs.{needs, sfits-of}
-use Rattle.integers.proofs.Machine.{par}
+use borrow.Author.Needs.{needs}
+use Rattle.integers.proofs.Machine.{read-back}
 use Rattle.flanks.specs.declared.Flanks.{Flanks}
 use Rattle.flanks.specs.Flanks.{begun as begunFor}
 use Rattle.engine.proofs.engine_of.Statement.{statement}
 use Rattle.engine.proofs.engine_of.Tie as tie
-
--- an entry is read back from its bits
-entry : {z : ℤ} → mag z < 2 ^ hbits w32 → toZ w32 (ofZ w32 z) ≡ z
-entry h = par (sfits-of h) .reads
 
 same-begun : (count : ℕ) (xs ys : List ℤ) {ax ay bx by ax′ ay′ bx′ by′ : ℤ} → ax ≡ ax′ → ay ≡ ay′ → bx ≡ bx′ → by ≡ by′ →
     begunFor count xs ys ax ay bx by ≡ begunFor count xs ys ax′ ay′ bx′ by′
@@ -41,8 +35,8 @@ is-begun c =
     let z = start c .args .t1 in
     let r = read c in
     c .begin .ensures
-    ∙ same-begun (z .count) (z .x) (z .y) (entry (r .before .before .before .begin-arg5 .given)) (entry (r .before .before .begin-arg6 .given))
-    (entry (r .before .begin-arg7 .given)) (entry (r .begin-arg8 .given))
+    ∙ same-begun (z .count) (z .x) (z .y) (read-back w32 (r .before .before .before .begin-arg5 .given)) (read-back w32 (r .before .before .begin-arg6 .given))
+    (read-back w32 (r .before .begin-arg7 .given)) (read-back w32 (r .begin-arg8 .given))
 
 -- where they have risen, with the pen's parts lent once more
 abbrev begun : tie.After-rise → tie.After-begin

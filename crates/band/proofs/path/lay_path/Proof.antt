@@ -11,8 +11,8 @@ use lib.Signed.{mag}
 use lib.IntN.{ℤ, pos}
 use lib.ListN.{length, getD, take}
 use lib.Seq.{take-all}
-use borrow.Author.Needs.{needs, sfits-of}
-use Rattle.integers.proofs.Machine.{par}
+use borrow.Author.Needs.{needs}
+use Rattle.integers.proofs.Machine.{read-back}
 use Rattle.limits.specs.Sizes.{inRange}
 use Rattle.plane.specs.Point.{Pt, corners}
 use Rattle.bits.specs.Bits.{blackened}
@@ -87,11 +87,8 @@ ends : (c : tie.After-end-of Inv-loop μ-loop) → EndsAt (start (looped c) .arg
 ends c = c .end-of .ensures (one-of (c .before))
 
 -- an entry that was read
-entry : {z : ℤ} → mag z < 2 ^ hbits w32 → toZ w32 (ofZ w32 z) ≡ z
-entry h = par {w = w32} (sfits-of h) .reads
-
 in-range : (z : ℤ) → mag z < 2 ^ hbits w32 → inRange z ≡ true → inRange (toZ w32 (ofZ w32 z)) ≡ true
-in-range z h e = ap inRange (entry h) ∙ e
+in-range z h e = ap inRange (read-back w32 h) ∙ e
 
 same-segment : {ax ay bx by ax′ ay′ bx′ by′ : ℤ} → ax ≡ ax′ → ay ≡ ay′ → bx ≡ bx′ → by ≡ by′ → seg ax ay bx by ≡ seg ax′ ay′ bx′ by′
 same-segment a b c d = cc
@@ -176,7 +173,7 @@ loop-again c =
     let i = looped e .loop in
     let a = start (looped e) .args in
     let cs = corners (a .count) (a .xs .now) (a .ys .now) in
-    let g = same-segment (entry (third .before .lay-segment-arg2 .given)) (entry (third .lay-segment-arg3 .given)) (entry (d .before .lay-segment-arg4 .given)) (entry (d .lay-segment-arg5 .given)) in
+    let g = same-segment (read-back w32 (third .before .lay-segment-arg2 .given)) (read-back w32 (third .lay-segment-arg3 .given)) (read-back w32 (d .before .lay-segment-arg4 .given)) (read-back w32 (d .lay-segment-arg5 .given)) in
     rw add-one (done-step (i .inv) (e .before .loop-test .taken) (laid .lay-segment .kept .0)
     (laid .lay-segment .ensures ∙ ap (λ (g : Seg). blackened (shaped (segmentBlack cs g) (a .s) (a .from) (a .to)) (i .bytes)) (g ∙ sym (ends e .segment past))))
 

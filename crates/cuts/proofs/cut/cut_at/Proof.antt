@@ -1,5 +1,7 @@
 -- The segment's extent is that of the definition, and so is its cut.
-use Rattle.extent.specs.Answer.{extentOf, seg}
+use Rattle.integers.proofs.Machine.{read-back}
+use Rattle.extent.specs.Answer.{seg}
+use Rattle.extent.proofs.Answered.{same-extent}
 use Rattle.extent.specs.declared.Extent.{Extent}
 use Rattle.extent.specs.declared.Extent.the-variants as extent·
 use Rattle.segments.specs.Ends.{EndsAt}
@@ -9,26 +11,14 @@ use Rattle.cuts.specs.Cuts.{cutTo, extentIn, cutsOf, Below}
 use Rattle.cuts.proofs.Raster.{cut-place, cut-below}
 use Rattle.stroke.specs.Sweep.{Seg, segments, pathPoints}
 use Rattle.plane.specs.Point.{Pt, corners}
-use mir.Syntax.{Width, w32, w64}
-use mir.Val.{toZ, ofZ, hbits}
-use lib.Signed.{mag}
-use mir.Facts.{toZ-ofZ}
+use mir.Syntax.{w32, w64}
 use lib.ListN.{getD}
-use lib.IntN.{ℤ, pos}
+use lib.IntN.{pos}
 use mathlib.Core.List.{List}
 use mathlib.Core.Path.{_≡_, sym, ap, ap₂, _∙_}
-use Prim.Native.Nat.{ℕ, _^_, _<_}
-use borrow.Author.Needs.{needs, sfits-of}
+use borrow.Author.Needs.{needs}
 use Rattle.cuts.proofs.cut.cut_at.Statement.{statement}
 use Rattle.cuts.proofs.cut.cut_at.Tie as tie
-
--- a number that fits is read back from its bits
-reads : (w : Width) {z : ℤ} → mag z < 2 ^ hbits w → toZ w (ofZ w z) ≡ z
-reads w h = toZ-ofZ {w = w} (sfits-of h)
-
-same-extent : (cs : List Pt) (j : ℕ) {ax ay bx by ax′ ay′ bx′ by′ : ℤ} → ax ≡ ax′ → ay ≡ ay′ → bx ≡ bx′ → by ≡ by′ →
-    extentOf cs ax ay bx by j ≡ extentOf cs ax′ ay′ bx′ by′ j
-same-extent cs j a b c d = cc
 
 -- ---- the segment's span and its cut by the definition
 -- what stands past the last segment
@@ -65,8 +55,8 @@ is-answer c =
     let s = asked c in
     let d = c .before in
     c .extent-at .ensures
-    ∙ same-extent (pen s) (s .args .row) (reads w32 (d .before .before .before .extent-at-arg .given)) (reads w32 (d .before .before .extent-at-arg2 .given))
-    (reads w32 (d .before .extent-at-arg3 .given)) (reads w32 (d .extent-at-arg4 .given))
+    ∙ same-extent (pen s) (s .args .row) (read-back w32 (d .before .before .before .extent-at-arg .given)) (read-back w32 (d .before .before .extent-at-arg2 .given))
+    (read-back w32 (d .before .extent-at-arg3 .given)) (read-back w32 (d .extent-at-arg4 .given))
     ∙ ap (extentIn (pen s) (s .args .row)) (sym (ends (found d) .segment past))
 
 -- so what is cut as the definition cuts it is the cut of the segment, and lies in the raster
@@ -135,7 +125,7 @@ returns-2 c =
     let at-extent = at-match .before .before in
     let f = c .before .known-told .given in
     is-cut-of at-extent
-    (c .cut-span .ensures ∙ ap (cutTo (asked at-extent .args .columns)) (ap₂ extent·.Columns (reads w64 (f .0 .1)) (reads w64 (f .1 .0 .1)) ∙ sym (at-match .e .given .1)))
+    (c .cut-span .ensures ∙ ap (cutTo (asked at-extent .args .columns)) (ap₂ extent·.Columns (read-back w64 (f .0 .1)) (read-back w64 (f .1 .0 .1)) ∙ sym (at-match .e .given .1)))
 
 pub cut-at-spec : {M : Type 1} → statement M
 cut-at-spec =
