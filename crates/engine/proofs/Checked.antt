@@ -19,7 +19,7 @@ then-passed (Refused n place) = refl
 
 module _ (p : List ℤ) (columns rows j : ℕ) (e : verdict p columns rows j ≡ Passed) where
   -- the checks that do not speak of the row
-  others : (pathVerdict p ≡ Passed) × (rasterVerdict columns rows ≡ Passed) × (coordinateVerdict p ≡ Passed)
+  pub others : (pathVerdict p ≡ Passed) × (rasterVerdict columns rows ≡ Passed) × (coordinateVerdict p ≡ Passed)
   others =
       let a = then-both (pathVerdict p) (rasterVerdict columns rows then rowVerdict rows j then coordinateVerdict p) e in
       let b = then-both (rasterVerdict columns rows) (rowVerdict rows j then coordinateVerdict p) (a .1) in

@@ -15,7 +15,7 @@ use Rattle.flanks.specs.Flanks.{flanksAt}
 use Rattle.engine.specs.declared.Engine.{Engine}
 use Rattle.engine.specs.Engine.{engineOf, stepResult, next, stepped}
 use Rattle.engine.specs.Theorems.{Driven, starts, steps, again}
-use Rattle.engine.proofs.Entries.{last}
+use Rattle.engine.proofs.OneSegment.{last}
 use Rattle.engine.proofs.Starting.{Passes, started-passes, started-engine}
 
 -- ---- a step

@@ -1,5 +1,5 @@
 -- What is proved of the engine, bottom up.
---   Entries      a path of one point or two, which is one segment
+--   OneSegment   a path of one point or two is one segment
 --   Checked      the checks that are passed in one row, asked for another
 --   Starting     a start that is answered 0: what it has passed, and its engine
 --   Driven       the engine after any number of steps
@@ -9,7 +9,7 @@
 --   StartCases   a start by what its checks answer
 --   StepCases    a step by what its checks answer
 --   Theorems     the claims of specs/Theorems.antt, each under its name there
-pub mod Entries
+pub mod OneSegment
 pub mod Checked
 pub mod Starting
 pub mod Driven

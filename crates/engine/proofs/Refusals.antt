@@ -1,15 +1,14 @@
 -- What a start and a step are refused for, held against the table of refusals; and what a refusal leaves.
 use Prim.Native.Nat.{ℕ, _/_}
-use native.Mathlib.Omega.{arith}
 use mathlib.Core.Path.{_≡_, refl, sym, ap, subst, _∙_}
-use mathlib.Core.Bool.{Bool, true, false, _||_}
+use mathlib.Core.Bool.{Bool, true, false}
 use mathlib.Core.List.{List, []}
-use lib.Dec.{eqb, leb}
+use lib.Dec.{leb}
 use lib.ListN.{length}
 use lib.IntN.{ℤ}
 use Rattle.limits.specs.declared.Verdict.{Verdict}
 use Rattle.limits.specs.declared.Verdict.the-variants.{Passed, Refused}
-use Rattle.limits.specs.Refusal.{path, room, unless, _then_}
+use Rattle.limits.specs.Refusal.{room, unless, _then_}
 use Rattle.limits.proofs.Exactly.{numberOf, placeOf, says-last, says-first}
 use Rattle.aperture.specs.declared.Table.{Table}
 use Rattle.aperture.specs.Table.{looked, lookedVerdict, heldCorners, placeOf as held-at}
@@ -17,17 +16,17 @@ use Rattle.aperture.specs.Refusals.{NoPen}
 use Rattle.aperture.proofs.Refusals.{look-says}
 use Rattle.stroke.specs.Sweep.{pathPoints}
 use Rattle.stroke.specs.Runs.{rowRuns}
-use Rattle.checks.specs.Checks.{pathVerdict, rasterVerdict, rowVerdict, coordinateVerdict, verdict, callVerdict, roomVerdict}
+use Rattle.checks.specs.Checks.{pathVerdict, segmentVerdict, rasterVerdict, rowVerdict, coordinateVerdict, verdict, callVerdict, roomVerdict}
 use Rattle.checks.specs.Answer.{Offer, given}
 use Rattle.checks.specs.Refuses.{Refuses}
-use Rattle.checks.proofs.Exactly.{row-says, room-says, settled-number, settled-none, settled-place, in-order, Placed, unless-placed, given-refuses}
+use Rattle.checks.proofs.Exactly.{row-says, room-says, settled-number, settled-none, settled-place, in-order, given-refuses}
+use Rattle.checks.proofs.Entries.{TwoOrFour, Entries, entries, passed-entries, entries-passed, segment-says, segment-placed}
 use Rattle.row.specs.Answer.{runsOffer}
 use Rattle.row.specs.Calls.{rowCall}
 use Rattle.row.proofs.Calls.{look-placed}
 use Rattle.engine.specs.declared.Engine.{Engine}
-use Rattle.engine.specs.Engine.{segmentVerdict, startVerdict, engineOf, startedBy, started, engineRuns, stepResult}
+use Rattle.engine.specs.Engine.{startVerdict, engineOf, startedBy, started, engineRuns, stepResult}
 use Rattle.engine.specs.Theorems.{RefusedStays, StartRefuses, StartIsCheck, StepRefuses}
-use Rattle.engine.proofs.Entries.{TwoOrFour, Entries, entries, passed-entries, entries-passed, segment-says}
 use Rattle.engine.proofs.Driven.{step-refused}
 
 -- ---- a step
@@ -64,9 +63,6 @@ path-too p Passed r = go (segmentVerdict p) refl
     go : (w : Verdict) → segmentVerdict p ≡ w → (w then pathVerdict p then r) ≡ (w then r)
     go Passed e = ap (λ (u : Verdict). u then r) (entries-passed (passed-entries p e) .1)
     go (Refused n place) e = refl
-
-segment-placed : (p : List ℤ) → Placed p (segmentVerdict p)
-segment-placed p = unless-placed p (eqb (length p) 2 || eqb (length p) 4) path (λ e. omega arith)
 
 pub start-refuses : StartRefuses
 unfolding started

@@ -34,6 +34,7 @@ use Rattle.stroke.proofs.Runs.{runs-ext}
 use Rattle.checks.specs.Checks.{rowVerdict, verdict}
 use Rattle.checks.specs.Answer.{given}
 use Rattle.checks.proofs.Verdicts.{verdict-passed}
+use Rattle.checks.proofs.Entries.{Entries}
 use Rattle.row.specs.Answer.{runsOffer, rowGiven, rowResult}
 use Rattle.row.specs.Calls.{rowCall}
 use Rattle.row.proofs.Filled.{call-is}
@@ -42,18 +43,18 @@ use Rattle.flanks.proofs.Theorems.{flanks-bound}
 use Rattle.engine.specs.declared.Engine.{Engine}
 use Rattle.engine.specs.Engine.{engineRuns, stepResult}
 use Rattle.engine.specs.Theorems.{EngineIsRow, EnginesMeet, EngineExtent}
-use Rattle.engine.proofs.Entries.{Entries, segmentOf, one-segment, entries-in, last}
+use Rattle.engine.proofs.OneSegment.{segmentOf, one-segment, entries-in, last}
 use Rattle.engine.proofs.Checked.{row-left, row-low}
 use Rattle.engine.proofs.Starting.{Passes}
 use Rattle.engine.proofs.Driven.{flanksOf, drivenTo, driven-is, driven-passes}
 
 -- ---- a result depends on its offer only where the checks are passed
-same-given : (v : Verdict) (rs ss : List Run) (l : List ℕ) → (v ≡ Passed → rs ≡ ss) → given v (runsOffer rs l) ≡ given v (runsOffer ss l)
+pub same-given : (v : Verdict) (rs ss : List Run) (l : List ℕ) → (v ≡ Passed → rs ≡ ss) → given v (runsOffer rs l) ≡ given v (runsOffer ss l)
 same-given Passed rs ss l f = ap (λ (rs : List Run). given Passed (runsOffer rs l)) (f refl)
 same-given (Refused n place) rs ss l f = refl
 
 -- ---- the row of one segment
-one-runs : (cs : List Pt) {p : List ℤ} (columns j : ℕ) → Entries p → rowRuns cs (pathPoints p) columns j ≡ runsOf (λ x. inSpan (extent cs (segmentOf p) (pos j)) (pos x)) columns
+pub one-runs : (cs : List Pt) {p : List ℤ} (columns j : ℕ) → Entries p → rowRuns cs (pathPoints p) columns j ≡ runsOf (λ x. inSpan (extent cs (segmentOf p) (pos j)) (pos x)) columns
 one-runs cs {p} columns j h =
     runs-ext (λ x _. ap (any (λ g. inSpan (extent cs g (pos j)) (pos x))) (one-segment h) ∙ or-false (inSpan (extent cs (segmentOf p) (pos j)) (pos x)))
 

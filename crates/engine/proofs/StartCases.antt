@@ -16,11 +16,11 @@ use Rattle.aperture.specs.Table.{vacant, looked, placeOf}
 use Rattle.aperture.proofs.Theorems.{looked-held, looked-small}
 use Rattle.aperture.proofs.Held.{place-past-end}
 use Rattle.checks.specs.declared.Answer.{Answer}
-use Rattle.checks.specs.Checks.{verdict}
+use Rattle.checks.specs.Checks.{segmentVerdict, verdict}
 use Rattle.checks.specs.Answer.{done, answerOf}
 use Rattle.engine.specs.declared.Engine.{Engine}
 use Rattle.engine.specs.declared.Started.{Started}
-use Rattle.engine.specs.Engine.{segmentVerdict, startVerdict, engineOf, stopped, startedBy, started}
+use Rattle.engine.specs.Engine.{startVerdict, engineOf, stopped, startedBy, started}
 
 module _ (t : Table) (n : ℕ) (p : List ℤ) (columns rows j : ℕ) where
   -- a check refuses

@@ -2,23 +2,20 @@
 use Prim.Native.Nat.{ℕ}
 use native.Mathlib.Omega.{arith}
 use mathlib.Core.Path.{_≡_, refl, ap}
-use mathlib.Core.Bool.{_||_}
 use mathlib.Core.List.{List}
-use lib.Dec.{eqb}
-use lib.ListN.{length}
 use lib.IntN.{ℤ}
 use Rattle.limits.specs.declared.Verdict.{Verdict}
 use Rattle.limits.specs.declared.Verdict.the-variants.{Passed, Refused}
-use Rattle.limits.specs.Refusal.{path, _then_}
-use Rattle.limits.proofs.Verdicts.{then-both, NotZero, then-not-zero, unless-not-zero}
+use Rattle.limits.specs.Refusal.{_then_}
+use Rattle.limits.proofs.Verdicts.{then-both, NotZero, then-not-zero}
 use Rattle.aperture.specs.declared.Table.{Table}
 use Rattle.aperture.specs.Table.{looked, lookedVerdict, placeOf}
 use Rattle.aperture.proofs.Refusals.{look-not-zero}
-use Rattle.checks.specs.Checks.{verdict}
+use Rattle.checks.specs.Checks.{segmentVerdict, verdict}
 use Rattle.checks.proofs.Verdicts.{verdict-not-zero}
+use Rattle.checks.proofs.Entries.{Entries, passed-entries, segment-not-zero}
 use Rattle.engine.specs.declared.Engine.{Engine}
-use Rattle.engine.specs.Engine.{segmentVerdict, startVerdict, engineOf, startedBy, started}
-use Rattle.engine.proofs.Entries.{Entries, passed-entries}
+use Rattle.engine.specs.Engine.{startVerdict, engineOf, startedBy, started}
 
 -- ---- no refusal of a start is 0
 -- so a start that answers 0 was not refused
@@ -30,7 +27,7 @@ module _ (t : Table) (n : ℕ) (p : List ℤ) (columns rows j : ℕ) where
   start-not-zero : NotZero (startVerdict t n p columns rows j)
   start-not-zero =
       then-not-zero (lookedVerdict (looked t n) then segmentVerdict p) _
-      (then-not-zero (lookedVerdict (looked t n)) (segmentVerdict p) (look-not-zero (looked t n)) (unless-not-zero (eqb (length p) 2 || eqb (length p) 4) path))
+      (then-not-zero (lookedVerdict (looked t n)) (segmentVerdict p) (look-not-zero (looked t n)) (segment-not-zero p))
       (verdict-not-zero p columns rows j)
 
   start-passed : started t n p columns rows j .answer .refusal ≡ 0 → startVerdict t n p columns rows j ≡ Passed

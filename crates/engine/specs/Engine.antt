@@ -1,11 +1,11 @@
 -- Document 02, W2: "Add a second engine for one segment .. that carries its left and right edges from row to row, upwards, starting at any row".
 use Prim.Native.Nat.{ℕ, suc, _+_, _-_}
-use mathlib.Core.Bool.{cond, _||_}
+use mathlib.Core.Bool.{cond}
 use mathlib.Core.List.{List, [], _∷_}
 use lib.Dec.{eqb, ltb}
 use lib.ListN.{length, getD}
 use lib.IntN.{ℤ, pos}
-use Rattle.limits.specs.Refusal.{path, unless, _then_}
+use Rattle.limits.specs.Refusal.{_then_}
 use Rattle.limits.specs.declared.Verdict.{Verdict}
 use Rattle.limits.specs.declared.Verdict.the-variants.{Passed, Refused}
 use Rattle.pen.specs.declared.Pen.{Pen}
@@ -13,7 +13,7 @@ use Rattle.pen.specs.Answer.{penOf}
 use Rattle.aperture.specs.declared.Table.{Table}
 use Rattle.aperture.specs.Table.{looked, lookedVerdict, placeOf}
 use Rattle.stroke.specs.Runs.{Run, runsOf, inSpan}
-use Rattle.checks.specs.Checks.{callVerdict, rowVerdict}
+use Rattle.checks.specs.Checks.{segmentVerdict, callVerdict, rowVerdict}
 use Rattle.checks.specs.Answer.{Result, done, answerOf, given}
 use Rattle.row.specs.Answer.{runsOffer}
 use Rattle.flanks.specs.declared.Cut.{Cut}
@@ -22,11 +22,7 @@ use Rattle.engine.specs.declared.Engine.{Engine}
 use Rattle.engine.specs.declared.Started.{Started}
 
 -- ---- starting
--- "one segment (a path of one or two points, else refusal 2)"
-abbrev pub segmentVerdict : List ℤ → Verdict
-segmentVerdict p = unless (eqb (length p) 2 || eqb (length p) 4) path
-
--- "Starting checks as a row call does but for 7": 6, 2, 4, 5, 3, by the row calls' own definition
+-- "for one segment (a path of one or two points, else refusal 2)"; "Starting checks as a row call does but for 7": 6, 2, 4, 5, 3, by the row calls' own definition
 abbrev pub startVerdict : Table → ℕ → List ℤ → ℕ → ℕ → ℕ → Verdict
 startVerdict t n p columns rows j = callVerdict (lookedVerdict (looked t n) then segmentVerdict p) p columns rows j
 

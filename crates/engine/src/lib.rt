@@ -16,7 +16,7 @@ ghost use lib.ListN.{length};
 ghost use Rattle.limits.specs.declared.Verdict.the-variants.{Passed};
 ghost use Rattle.checks.specs.Answer.{answerOf, given};
 ghost use Rattle.row.specs.Answer.{runsOffer};
-ghost use Rattle.engine.specs.Engine.{segmentVerdict, engineOf, stopped, started, cutRuns, stepResult, next, stepped};
+ghost use Rattle.engine.specs.Engine.{engineOf, stopped, started, cutRuns, stepResult, next, stepped};
 
 // The pen of the aperture as it was at the start, the flanks in the row that comes next, the
 // raster's size, and that row.
@@ -38,19 +38,6 @@ pub struct Started {
 pub struct Stepped {
     pub answer: Answer,
     pub engine: Engine,
-}
-
-// One point, or two.
-fn segment_check(path: &[i32]) -> Verdict
-    ensures { λ r. ⌜ r ≡ segmentVerdict (now (path .entry)) ⌝ }
-{
-    if path.len() == 2 {
-        return Verdict::Passed;
-    }
-    if path.len() == 4 {
-        return Verdict::Passed;
-    }
-    Verdict::Refused(limits::BAD_PATH, 0)
 }
 
 fn stopped() -> Engine
@@ -112,7 +99,7 @@ pub fn start(table: Table, number: u64, path: &[i32], columns: u64, rows: u64, r
     let Looked::At(i) = aperture::look_up(table, number) else {
         return refused(Verdict::Refused(limits::NO_APERTURE, 0));
     };
-    let segment = segment_check(path);
+    let segment = checks::segment_check(path);
     let Verdict::Passed = segment else {
         return refused(segment);
     };

@@ -10,10 +10,11 @@ use Rattle.pen.specs.declared.Pen.{Pen}
 use Rattle.aperture.specs.declared.Looked.the-variants as looked·
 use Rattle.aperture.specs.Table.{looked}
 use Rattle.aperture.proofs.Theorems.{looked-small}
-use Rattle.checks.specs.Checks.{verdict}
+use Rattle.checks.specs.Checks.{segmentVerdict, verdict}
 use Rattle.checks.proofs.Verdicts.{verdict-passed}
-use Rattle.engine.specs.Engine.{segmentVerdict, startVerdict, engineOf}
-use Rattle.engine.proofs.Entries.{passed-entries, entries-in}
+use Rattle.checks.proofs.Entries.{passed-entries}
+use Rattle.engine.specs.Engine.{startVerdict, engineOf}
+use Rattle.engine.proofs.OneSegment.{entries-in}
 use Rattle.engine.proofs.Checked.{rows-size}
 use Rattle.engine.proofs.StartCases.{start-refused, start-done, verdict-unheld, verdict-no-segment, verdict-left, pen-found}
 use Rattle.engine.proofs.start.Statement.{statement}

@@ -1,23 +1,21 @@
--- A path of one point or two, which is one segment: from its first point to its last, the same where it has one.
-use Prim.Native.Nat.{ℕ, _+_, _-_, _<_}
+-- A path of one point or two, which is one segment, by its entries; and what the check says of them.
+use Prim.Native.Nat.{ℕ}
 use native.Mathlib.Omega.{arith}
 use mathlib.Core.Path.{_≡_, refl}
 use mathlib.Core.Logic.{_⊎_, inl, inr}
 use mathlib.Core.Bool.{Bool, true, false, _||_, or-true}
 use mathlib.Core.List.{List, [], _∷_}
 use lib.Dec.{eqb}
-use lib.ListN.{length, getD}
-use lib.IntN.{ℤ, pos}
+use lib.ListN.{length}
+use lib.IntN.{ℤ}
 use borrow.Author.Tests.{eqb-true, eq-eqb, ne-eqb}
 use Rattle.integers.proofs.Tests.{clash}
 use Rattle.limits.specs.Refusal.{path}
 use Rattle.limits.specs.declared.Verdict.the-variants.{Passed}
 use Rattle.limits.proofs.Exactly.{Says, unless-says}
-use Rattle.limits.proofs.Verdicts.{unless-true}
-use Rattle.plane.specs.Point.{pt}
-use Rattle.stroke.specs.Sweep.{Seg, pathPoints, segments}
-use Rattle.checks.specs.Checks.{pathVerdict}
-use Rattle.engine.specs.Engine.{segmentVerdict}
+use Rattle.limits.proofs.Verdicts.{unless-true, NotZero, unless-not-zero}
+use Rattle.checks.specs.Checks.{pathVerdict, segmentVerdict}
+use Rattle.checks.proofs.Exactly.{Placed, unless-placed}
 
 -- by its entries
 pub data Entries : List ℤ → Type 0 where
@@ -63,19 +61,9 @@ pub entries-passed : {p : List ℤ} → Entries p → (segmentVerdict p ≡ Pass
 entries-passed dot = (refl, refl)
 entries-passed line = (refl, refl)
 
--- ---- its one segment
-abbrev pub last : List ℤ → ℕ
-last p = length p - 2
+-- ---- a refusal of it is never 0, and has the place 0
+pub segment-not-zero : (p : List ℤ) → NotZero (segmentVerdict p)
+segment-not-zero p = unless-not-zero (eqb (length p) 2 || eqb (length p) 4) path
 
-abbrev pub segmentOf : List ℤ → Seg
-segmentOf p = record { from = pt (getD p 0 (pos 0)) (getD p 1 (pos 0)); to = pt (getD p (last p) (pos 0)) (getD p (last p + 1) (pos 0)) }
-
-pub one-segment : {p : List ℤ} → Entries p → segments (pathPoints p) ≡ segmentOf p ∷ []
-unfolding pathPoints
-one-segment dot = refl
-one-segment line = refl
-
--- the entries that are read are the path's
-pub entries-in : {p : List ℤ} → Entries p → (1 < length p) × (last p + 1 < length p)
-entries-in dot = (omega arith, omega arith)
-entries-in line = (omega arith, omega arith)
+pub segment-placed : (p : List ℤ) → Placed p (segmentVerdict p)
+segment-placed p = unless-placed p (eqb (length p) 2 || eqb (length p) 4) path (λ e. omega arith)

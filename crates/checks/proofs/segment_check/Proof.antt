@@ -4,9 +4,9 @@ use mathlib.Core.Logic.{inl, inr}
 use lib.ListN.{length}
 use Rattle.limits.specs.Refusal.{path}
 use Rattle.limits.proofs.Verdicts.{refused}
-use Rattle.engine.proofs.Entries.{entries, entries-passed, neither}
-use Rattle.engine.proofs.segment_check.Statement.{statement}
-use Rattle.engine.proofs.segment_check.Tie as tie
+use Rattle.checks.proofs.Entries.{entries, entries-passed, neither}
+use Rattle.checks.proofs.segment_check.Statement.{statement}
+use Rattle.checks.proofs.segment_check.Tie as tie
 
 returns : tie.Need-returns
 returns c = sym (entries-passed (entries (c .before .args .path .now) (inl (c .if1 .taken))) .0)
