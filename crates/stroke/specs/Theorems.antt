@@ -5,8 +5,9 @@ use mathlib.Core.Bool.{true}
 use mathlib.Core.List.{List, [], _∷_}
 use Prim.Native.Nat.{ℕ, _+_, _-_, _*_, _≤_, _<_}
 use lib.ListN.{length, getD}
-use lib.IntN.{ℤ, pos, _-ℤ_, _*ℤ_}
-use Rattle.integers.specs.Orders.{_≼_}
+use lib.IntN.{ℤ, pos, _+ℤ_, _-ℤ_, _*ℤ_}
+use Rattle.integers.specs.Orders.{_≼_, _≺_}
+use Rattle.integers.specs.Compare.{minZ, maxZ}
 use Rattle.integers.specs.Count.{_∈_}
 use Rattle.plane.specs.Point.{Pt, pt}
 use Rattle.plane.specs.Polygon.{Side, dot, PenLaws}
@@ -56,6 +57,11 @@ BlackTest = EveryPen λ cs Dx Dy. (g : Seg) (X : Pt) → (blackTest cs g X ≡ t
 -- `sides` and `kept` to the sweep by existence
 abbrev pub BlackBeside : Type 0
 BlackBeside = EveryPen λ cs Dx Dy. (g : Seg) (X : Pt) → BesideDecides cs g X
+
+-- 2c. and it lies past neither end of its segment by more than half the pen's width; to the left it is less, since the sides there are dropped
+abbrev pub BlackSideways : Type 0
+BlackSideways = EveryPen λ cs Dx Dy. (g : Seg) (X : Pt) → Black cs g X →
+    (minZ (g .from .x) (g .to .x) -ℤ pos 8 *ℤ Dx ≺ X .x) × (X .x ≼ maxZ (g .from .x) (g .to .x) +ℤ pos 8 *ℤ Dx)
 
 -- 3. a column is black for a segment exactly when it lies in the extent
 abbrev pub ExtentBlack : Type 0
