@@ -122,7 +122,7 @@ abbrev pub Near : List Seg → ℕ → Type 0
 Near l j = (g : Seg) → g ∈ l → allowed (g .from .x) (g .from .y) (g .to .x) (g .to .y) j ≡ true
 
 -- what the code answers for such a segment is its extent
-near-extent : (cs : List Pt) (g : Seg) (j : ℕ) → allowed (g .from .x) (g .from .y) (g .to .x) (g .to .y) j ≡ true → answered (extent cs g (pos j)) ≡ extentIn cs j g
+pub near-extent : (cs : List Pt) (g : Seg) (j : ℕ) → allowed (g .from .x) (g .from .y) (g .to .x) (g .to .y) j ≡ true → answered (extent cs g (pos j)) ≡ extentIn cs j g
 unfolding extentOf
 near-extent cs g j e = rw (extentOf, e)
 
