@@ -5,7 +5,7 @@
 --   Sides, Inside, Greatest, Sweep     the sides of a segment, and theorem 1: in the sweep exactly when within every side
 --   Black                              theorem 2: black exactly when every side allows it, which the test decides
 --   Enlarged, Little, Beside           theorem 2b: and exactly when the point a little left of it, and by far less below, is in the sweep
---   Sideways                           theorem 2c: how far sideways
+--   Sideways, Shifted                  theorems 2c and 2d: how far sideways; and moved together with its segment
 --   Reach, Limits, Columns, Path       theorem 3: the black columns of a row are the extent; and black for a whole path
 --   Apart, Runs                        lists of runs that are apart, and theorem 4: the computed runs are the longest, which are unique
 --   Totals                             what the runs of several rows hold together, and in how many rows they cover a column
@@ -28,6 +28,7 @@ pub mod Enlarged
 pub mod Little
 pub mod Beside
 pub mod Sideways
+pub mod Shifted
 pub mod Reach
 pub mod Limits
 pub mod Columns

@@ -1,10 +1,11 @@
 -- The claims of specs/Theorems.antt, each under its name there.
-use Rattle.stroke.specs.Theorems.{PointsAre, DotIs, SegmentsAre, SweepSides, BlackTest, BlackBeside, BlackSideways, ExtentBlack, RunsLongest, LongestUnique, OffsetGreatest, RowsHold, ColumnHolds, ColumnBand}
+use Rattle.stroke.specs.Theorems.{PointsAre, DotIs, SegmentsAre, SweepSides, BlackTest, BlackBeside, BlackSideways, BlackShifted, ExtentBlack, RunsLongest, LongestUnique, OffsetGreatest, RowsHold, ColumnHolds, ColumnBand}
 use Rattle.stroke.proofs.Segments as paths
 use Rattle.stroke.proofs.Sweep.{sweep-iff}
 use Rattle.stroke.proofs.Black.{test-iff}
 use Rattle.stroke.proofs.Beside as besides
 use Rattle.stroke.proofs.Sideways as sideways
+use Rattle.stroke.proofs.Shifted as shifts
 use Rattle.stroke.proofs.Columns.{extent-iff}
 use Rattle.stroke.proofs.Furthest as furthest
 use Rattle.stroke.proofs.WeightTheorems as weights
@@ -29,6 +30,9 @@ black-beside = besides.black-beside
 
 pub black-sideways : BlackSideways
 black-sideways = sideways.black-sideways
+
+pub black-shifted : BlackShifted
+black-shifted = shifts.black-shifted
 
 pub extent-black : ExtentBlack
 extent-black = extent-iff

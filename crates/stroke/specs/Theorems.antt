@@ -63,6 +63,16 @@ abbrev pub BlackSideways : Type 0
 BlackSideways = EveryPen λ cs Dx Dy. (g : Seg) (X : Pt) → Black cs g X →
     (minZ (g .from .x) (g .to .x) -ℤ pos 8 *ℤ Dx ≺ X .x) × (X .x ≼ maxZ (g .from .x) (g .to .x) +ℤ pos 8 *ℤ Dx)
 
+-- 2d. and moved together with its segment it stays so
+abbrev pub shifted : Pt → Pt → Pt
+shifted D P = pt (P .x +ℤ D .x) (P .y +ℤ D .y)
+
+abbrev pub shiftedSeg : Pt → Seg → Seg
+shiftedSeg D g = record { from = shifted D (g .from); to = shifted D (g .to) }
+
+abbrev pub BlackShifted : Type 0
+BlackShifted = EveryPen λ cs Dx Dy. (g : Seg) (X D : Pt) → Black cs g X ↔ Black cs (shiftedSeg D g) (shifted D X)
+
 -- 3. a column is black for a segment exactly when it lies in the extent
 abbrev pub ExtentBlack : Type 0
 ExtentBlack = EveryPen λ cs Dx Dy. (g : Seg) (i j : ℤ) → In (extent cs g j) i ↔ Black cs g (centre i j)

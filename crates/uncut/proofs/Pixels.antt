@@ -49,7 +49,7 @@ spanned black none p h = λ i b. h i .1 b
 spanned black (columns first last) p h = (p, λ i. (h i .1, h i .0))
 
 -- a path of one segment is black where the segment is
-one-black : (cs : List Pt) (path : List Pt) (g : Seg) (X : Pt) → segments path ≡ g ∷ [] → Black cs g X ↔ BlackPath cs path X
+pub one-black : (cs : List Pt) (path : List Pt) (g : Seg) (X : Pt) → segments path ≡ g ∷ [] → Black cs g X ↔ BlackPath cs path X
 one-black cs path g X e = (
   λ b. record { segment = g; on-path = subst (λ (l : List Seg). g ∈ l) (sym e) (head refl); black = b },
   λ b. elim (cases (subst (λ (l : List Seg). b .segment ∈ l) e (b .on-path))) [
@@ -64,7 +64,7 @@ module _ {σ : Setting} {t : Table} {n : ℕ} (h : Holds t n σ) {p : List ℤ} 
   pub pen-extent : reachedIn t n p j .extent ≡ answered (extent (pen σ) (segmentOf p) (pos j))
   pen-extent = ap (λ (r : Reached). r .extent) (passes-reached q) ∙ ap (λ (cs : List Pt). answered (extent cs (segmentOf p) (pos j))) (held-corners h)
 
-  spans : Spans (λ i. BlackPath (pen σ) (pathPoints p) (centre i (pos j))) (reachedIn t n p j .extent)
+  pub spans : Spans (λ i. BlackPath (pen σ) (pathPoints p) (centre i (pos j))) (reachedIn t n p j .extent)
   spans =
       let g = segmentOf p in
       let black : ℤ → Type 0 = λ i. BlackPath (pen σ) (pathPoints p) (centre i (pos j)) in

@@ -4,7 +4,7 @@ use mathlib.Core.Path.{_≡_}
 use mathlib.Core.Logic.{_⊎_, _↔_}
 use mathlib.Core.List.{List, [], _∷_}
 use lib.ListN.{length}
-use lib.IntN.{ℤ, pos, negℤ}
+use lib.IntN.{ℤ, pos, negℤ, _+ℤ_, _*ℤ_}
 use Rattle.integers.specs.Orders.{_≼_}
 use Rattle.limits.specs.Exactly.{_when_else_, done, FirstBad, BadCoordinate}
 use Rattle.setting.specs.declared.Setting.{Setting}
@@ -73,6 +73,24 @@ abbrev pub ReachBounded : Type 0
 ReachBounded =
     (σ : Setting) (t : Table) (n : ℕ) → Holds t n σ → (path : List ℤ) (j : ℕ) (first last : ℤ) → reachedIn t n path j .extent ≡ extent·.Columns first last →
     (negℤ (pos 16399) ≼ first) × (last ≼ pos 16400)
+
+-- ---- films side by side
+-- a path d columns further to the right, and an extent so
+abbrev pub movedRight : ℤ → List ℤ → List ℤ
+movedRight d [] = []
+movedRight d (x ∷ []) = x ∷ []
+movedRight d (x ∷ y ∷ l) = (x +ℤ pos 16 *ℤ d) ∷ y ∷ movedRight d l
+
+abbrev pub further : ℤ → Extent → Extent
+further d extent·.Nothing = extent·.Nothing
+further d (extent·.Columns first last) = extent·.Columns (first +ℤ d) (last +ℤ d)
+
+-- "Film stitching": what lies beyond one film is what another film has that counts its columns from elsewhere, by whatever table of the same setting
+abbrev pub ReachMoved : Type 0
+ReachMoved =
+    (σ : Setting) (t t′ : Table) (n n′ : ℕ) → Holds t n σ → Holds t′ n′ σ → (path : List ℤ) (j : ℕ) (d : ℤ) →
+    reachedIn t n path j .answer .refusal ≡ 0 → reachedIn t′ n′ (movedRight d path) j .answer .refusal ≡ 0 →
+    reachedIn t′ n′ (movedRight d path) j .extent ≡ further d (reachedIn t n path j .extent)
 
 -- ---- beside the row answer and the engine
 -- the one run of a cut
