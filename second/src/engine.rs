@@ -15,7 +15,9 @@ use crate::calls::MOST_QUESTIONS;
 use crate::engine_kinds::{Counts, Driven};
 use crate::fast::Drawer;
 use crate::pen;
+use crate::requests;
 use crate::row::{self, done, refused, Answer, Drawn};
+use crate::segment::Segment;
 use crate::setting::Setting;
 use crate::table::Table;
 use std::fmt;
@@ -51,7 +53,7 @@ impl Request {
             self.path.len() as u64,
             self.rooms.len() as u64,
         ];
-        let mut bytes: Vec<u8> = head.iter().flat_map(|n| n.to_le_bytes()).collect();
+        let mut bytes = requests::number_bytes(&head);
         bytes.extend(row::path_bytes(&self.path));
         bytes.extend(&self.rooms);
         bytes
@@ -59,18 +61,10 @@ impl Request {
 
     /// The first request of a stream, and what follows it.
     fn from_bytes(bytes: &[u8]) -> Result<(Request, &[u8]), String> {
-        let breaks_off = || "the requests break off".to_string();
-        let cut = |bytes, length: usize| split(bytes, length).ok_or_else(breaks_off);
-        let (head, rest) = cut(bytes, HEAD)?;
-        let numbers: Vec<u64> = head
-            .chunks_exact(8)
-            .map(|eight| u64::from_le_bytes(eight.try_into().expect("eight bytes")))
-            .collect();
-        let (path, rest) = cut(rest, (numbers[8] as usize).saturating_mul(4))?;
-        let (rooms, rest) = cut(rest, numbers[9] as usize)?;
-        let path = path
-            .chunks_exact(4)
-            .map(|four| i32::from_le_bytes(four.try_into().expect("four bytes")));
+        let (head, rest) = requests::cut(bytes, HEAD)?;
+        let numbers = requests::numbers(head);
+        let (path, rest) = requests::path(rest, numbers[8])?;
+        let (rooms, rest) = requests::cut(rest, numbers[9] as usize)?;
         let request = Request {
             setting: Setting::new(numbers[0], numbers[1], numbers[2]),
             defined: numbers[3],
@@ -78,21 +72,16 @@ impl Request {
             columns: numbers[5],
             rows: numbers[6],
             row: numbers[7],
-            path: path.collect(),
+            path,
             rooms: rooms.to_vec(),
         };
         Ok((request, rest))
     }
 
-    /// The two ends of its segment, which are one where the path has one point.
-    pub fn ends(&self) -> [(i64, i64); 2] {
-        let point = |i: usize| (i64::from(self.path[i]), i64::from(self.path[i + 1]));
-        [point(0), point(self.path.len() - 2)]
+    /// Its segment, where the path has one or two points.
+    pub fn segment(&self) -> Segment {
+        Segment::new(self.setting, &self.path)
     }
-}
-
-fn split(bytes: &[u8], length: usize) -> Option<(&[u8], &[u8])> {
-    (length <= bytes.len()).then(|| bytes.split_at(length))
 }
 
 impl fmt::Display for Request {
@@ -202,8 +191,7 @@ impl Part {
             place,
             count,
         } = self.answer;
-        let numbers = [u64::from(refusal), place, count as u64];
-        let mut bytes: Vec<u8> = numbers.iter().flat_map(|n| n.to_le_bytes()).collect();
+        let mut bytes = requests::number_bytes(&[u64::from(refusal), place, count as u64]);
         bytes.extend(&self.lent);
         bytes
     }
@@ -266,11 +254,8 @@ pub fn answers(requests: &[u8]) -> Result<Vec<u8>, String> {
 fn show(part: &[u8]) -> String {
     let numbers: Vec<String> = ["refusal", "place", "count"]
         .iter()
-        .zip(part.chunks_exact(8))
-        .map(|(name, eight)| {
-            let number = u64::from_le_bytes(eight.try_into().expect("eight bytes"));
-            format!("{name} {number}")
-        })
+        .zip(requests::numbers(part))
+        .map(|(name, number)| format!("{name} {number}"))
         .collect();
     let lent: Vec<u16> = part
         .get(24..)

@@ -4,7 +4,8 @@ use crate::engine::{Engine, Request};
 use crate::engine_stream::all_pens;
 use crate::pen;
 use crate::row::Answer;
-use crate::sweep::{centre, Point, Sweep};
+use crate::segment::Segment;
+use crate::sweep::{centre, Point};
 use std::collections::HashSet;
 use std::fmt;
 
@@ -46,23 +47,17 @@ impl Driven<'_, '_> {
         self.step.map_or(0, |i| self.request.rooms[i])
     }
 
-    /// From the first end to the second.
-    fn way(&self) -> (i64, i64) {
-        let [a, b] = self.request.ends();
-        (b.0 - a.0, b.1 - a.1)
+    fn segment(&self) -> Segment {
+        self.request.segment()
     }
 
-    /// The lowest and the highest height of the sweep, and the least and the
-    /// greatest x.
+    /// A start that was not refused, of such a segment.
+    fn started_with(&self, is: impl Fn(&Segment) -> bool) -> bool {
+        self.started() && is(&self.segment())
+    }
+
     fn bounds(&self) -> [i64; 4] {
-        let [a, b] = self.request.ends();
-        let (x, y) = (8 * self.request.setting.dx(), 8 * self.request.setting.dy());
-        [
-            a.1.min(b.1) - y,
-            a.1.max(b.1) + y,
-            a.0.min(b.0) - x,
-            a.0.max(b.0) + x,
-        ]
+        self.segment().bounds()
     }
 
     fn height(&self) -> i64 {
@@ -82,8 +77,8 @@ impl Driven<'_, '_> {
 
     /// Whether it lies on a side.
     fn on_a_side(&self, column: i128) -> bool {
-        let off = |sweep: &Sweep| sweep.black_if_kept(self.centre(column), |_| false);
-        self.within(column) && self.engine.is_some_and(|engine| !off(&engine.drawn.0[0]))
+        self.engine
+            .is_some_and(|engine| engine.drawn.0[0].sides_through(self.centre(column)) > 0)
     }
 
     /// The run's columns, where there is one.
@@ -94,19 +89,6 @@ impl Driven<'_, '_> {
         let columns = self.engine?.drawn.columns(self.request.columns, self.row);
         Some((*columns.first()? as i128, *columns.last()? as i128))
     }
-
-    /// Whether the path runs along an edge of the pen that is neither level nor
-    /// upright.
-    fn along_an_edge(&self) -> bool {
-        let (u, v) = self.way();
-        let quarter = pen::quarter(&self.request.setting).expect("started with a pen");
-        let corners = pen::whole(&quarter);
-        let next = corners.iter().cycle().skip(1);
-        u != 0 && v != 0 && {
-            let mut edges = corners.iter().zip(next);
-            edges.any(|(from, to)| (to.0 - from.0) * v == (to.1 - from.1) * u)
-        }
-    }
 }
 
 type Kind = (&'static str, fn(&Driven) -> bool);
@@ -116,28 +98,23 @@ const STARTS: [Kind; 25] = [
     ("started", |d| d.started()),
     ("one point", |d| d.started() && d.request.path.len() == 2),
     ("two equal points", |d| {
-        d.started() && d.request.path.len() == 4 && d.way() == (0, 0)
+        d.request.path.len() == 4 && d.started_with(Segment::is_dot)
     }),
-    ("level", |d| d.started() && d.way().1 == 0 && d.way().0 != 0),
-    ("upright", |d| {
-        d.started() && d.way().0 == 0 && d.way().1 != 0
-    }),
-    ("nearly level", |d| {
-        d.started() && d.way().1 != 0 && 16 * d.way().1.abs() <= d.way().0.abs()
-    }),
+    ("level", |d| d.started_with(Segment::level)),
+    ("upright", |d| d.started_with(Segment::upright)),
+    ("nearly level", |d| d.started_with(Segment::nearly_level)),
     ("nearly upright", |d| {
-        d.started() && d.way().0 != 0 && 16 * d.way().0.abs() <= d.way().1.abs()
+        d.started_with(Segment::nearly_upright)
     }),
-    ("downwards", |d| d.started() && d.way().1 < 0),
+    ("downwards", |d| d.started_with(|s| s.way().1 < 0)),
     ("along an edge of the pen", |d| {
-        d.started() && d.along_an_edge()
+        d.started_with(Segment::along_an_edge)
     }),
     ("an end at a limit", |d| {
-        d.started() && d.request.path.iter().any(|c| c.abs() == 262_144)
+        d.started_with(|s| s.ends_at_a_limit() > 0)
     }),
     ("both ends at a limit", |d| {
-        let at_limit = |p: (i64, i64)| p.0.abs() == 262_144 || p.1.abs() == 262_144;
-        d.started() && d.request.ends().iter().all(|&p| at_limit(p))
+        d.started_with(|s| s.ends_at_a_limit() == 2)
     }),
     ("left of the raster", |d| d.started() && d.bounds()[3] < 0),
     ("right of the raster", |d| {

@@ -9,6 +9,7 @@
 use crate::pen;
 use crate::setting::Setting;
 use crate::sweep::{centre, Sweep};
+use std::ops::RangeInclusive;
 
 #[derive(Clone, Copy, Debug, PartialEq, Eq)]
 pub struct Record {
@@ -60,32 +61,50 @@ pub fn from_bytes(bytes: &[u8]) -> Result<Vec<Record>, String> {
     Ok(records.collect())
 }
 
-/// Every column within reach of the segment, one after another. The black ones
-/// must stand together; this is asked, not used.
-pub fn extent(record: &Record) -> Result<Option<(i64, i64)>, String> {
+/// The sweep of the record's segment.
+pub fn sweep(record: &Record) -> Result<Sweep, String> {
     let Some(quarter) = pen::quarter(&record.setting) else {
         return Err(format!("{record:?} has no pen"));
     };
     let point = |p: (i32, i32)| (p.0 as i128, p.1 as i128);
-    let (a, b) = (point(record.a), point(record.b));
-    let sweep = Sweep::new(&pen::whole(&quarter), a, b);
-    // Nothing of the sweep lies further than half the pen's width from both
-    // ends; one more column on each side for good measure.
-    let reach = 8 * record.setting.dx() as i128;
-    let from = (a.0.min(b.0) - reach).div_euclid(16) - 1;
-    let to = (a.0.max(b.0) + reach).div_euclid(16) + 2;
-    let black: Vec<i128> = (from..=to)
-        .filter(|&i| sweep.black(centre(i, record.row as i128)))
+    let pen = pen::whole(&quarter);
+    Ok(Sweep::new(&pen, point(record.a), point(record.b)))
+}
+
+/// Nothing of the sweep lies further than half the pen's width from both ends; one
+/// more column on each side for good measure.
+pub fn within_reach(record: &Record) -> RangeInclusive<i64> {
+    let reach = 8 * record.setting.dx();
+    let (a, b) = (i64::from(record.a.0), i64::from(record.b.0));
+    let from = (a.min(b) - reach).div_euclid(16) - 1;
+    from..=(a.max(b) + reach).div_euclid(16) + 2
+}
+
+/// The first and the last black one of these columns, each of them decided by itself.
+/// The black ones must stand together; this is asked, not used.
+pub fn extent_among(
+    record: &Record,
+    sweep: &Sweep,
+    columns: RangeInclusive<i64>,
+) -> Result<Option<(i64, i64)>, String> {
+    let black: Vec<i64> = columns
+        .filter(|&i| sweep.black(centre(i as i128, record.row as i128)))
         .collect();
     let (Some(&first), Some(&last)) = (black.first(), black.last()) else {
         return Ok(None);
     };
-    if last - first + 1 != black.len() as i128 {
+    if last - first + 1 != black.len() as i64 {
         return Err(format!(
             "{record:?}: the black columns {black:?} do not stand together"
         ));
     }
-    Ok(Some((first as i64, last as i64)))
+    Ok(Some((first, last)))
+}
+
+/// The same of every column within reach of the segment.
+pub fn extent(record: &Record) -> Result<Option<(i64, i64)>, String> {
+    let sweep = sweep(record)?;
+    extent_among(record, &sweep, within_reach(record))
 }
 
 fn answer(extent: Option<(i64, i64)>) -> Vec<u8> {

@@ -75,6 +75,13 @@ impl Pen {
         }
     }
 
+    /// The first and last black column of a segment in a row, not cut to any raster.
+    pub fn extent(&self, a: Point, b: Point, row: i64) -> Option<(i64, i64)> {
+        let mut sides = Vec::with_capacity(self.edges.len() + 2);
+        self.sides(a, b, &mut sides);
+        extent(&sides, row)
+    }
+
     /// The rows that a segment may touch.
     fn rows(&self, a: Point, b: Point) -> (i64, i64) {
         let low = (a.1.min(b.1) - self.reach + 15).div_euclid(16);
@@ -280,7 +287,6 @@ mod tests {
 
     #[test]
     fn extents_are_the_literal_ones() {
-        let mut sides = Vec::new();
         for record in random_segments(3_000, 11) {
             // The literal way walks along a segment, so only short ones.
             if (record.a.0 - record.b.0).abs() > 2_000 {
@@ -289,8 +295,7 @@ mod tests {
             let pen = Pen::new(record.setting).unwrap();
             let point = |p: (i32, i32)| (p.0 as i64, p.1 as i64);
             let (a, b) = (point(record.a), point(record.b));
-            pen.sides(a, b, &mut sides);
-            let own = extent(&sides, record.row);
+            let own = pen.extent(a, b, record.row);
             assert_eq!(Ok(own), extent::extent(&record), "{record:?}");
             let (low, high) = pen.rows(a, b);
             assert!(own.is_none() || (low <= record.row && record.row <= high));

@@ -27,8 +27,10 @@ pub mod paper_rows;
 pub mod pbm;
 pub mod pen;
 pub mod pens;
+pub mod requests;
 pub mod row;
 pub mod row_times;
+pub mod segment;
 pub mod segments;
 pub mod setting;
 #[cfg(test)]

@@ -208,7 +208,7 @@ mod tests {
             let sweep = Sweep::new(&pen::whole(&quarter), point(record.a), point(record.b));
             let x = |i: i64| centre(i as i128, record.row as i128);
             let within = |i: i64| sweep.contains(x(i));
-            let on_a_side = |i: i64| within(i) && !sweep.black_if_kept(x(i), |_| false);
+            let on_a_side = |i: i64| sweep.sides_through(x(i)) > 0;
             if let Some((first, last)) = extent(record).unwrap() {
                 black += 1;
                 left += usize::from(within(first - 1));

@@ -156,6 +156,16 @@ impl Sweep {
                 .filter(|side| dot(side.normal, x) == side.offset)
                 .all(|side| kept(side.normal))
     }
+
+    /// How many sides of the sweep go through x, which lies in it; two or more meet in
+    /// a corner.
+    pub fn sides_through(&self, x: Point) -> usize {
+        if !self.contains(x) {
+            return 0;
+        }
+        let on = |side: &&Line| dot(side.normal, x) == side.offset;
+        self.sides.iter().filter(on).count()
+    }
 }
 
 /// "Pixel (i, j) has its centre at column i, row j ... at (16i, 16j)".
