@@ -29,7 +29,7 @@ pub fn all_pens() -> Vec<Setting> {
     settings
 }
 
-fn mixed(sequence: &mut Sequence, mut settings: Vec<Setting>) -> Vec<Setting> {
+pub(crate) fn mixed(sequence: &mut Sequence, mut settings: Vec<Setting>) -> Vec<Setting> {
     for i in (1..settings.len()).rev() {
         settings.swap(i, sequence.below(i as u64 + 1) as usize);
     }
@@ -70,7 +70,12 @@ fn some_point(
 }
 
 /// The path of one segment, through a point.
-fn some_path(sequence: &mut Sequence, setting: &Setting, from: Point, step: i64) -> Vec<Point> {
+pub(crate) fn some_path(
+    sequence: &mut Sequence,
+    setting: &Setting,
+    from: Point,
+    step: i64,
+) -> Vec<Point> {
     let little = between(sequence, 1, 16) * sign(sequence);
     let much = between(sequence, 200, 2_000) * sign(sequence);
     let way = match sequence.below(16) {
@@ -91,7 +96,7 @@ fn some_path(sequence: &mut Sequence, setting: &Setting, from: Point, step: i64)
 }
 
 /// The lowest and the highest row that a segment can touch, or one beside it.
-fn touched(setting: &Setting, path: &[i32]) -> (i64, i64) {
+pub(crate) fn touched(setting: &Setting, path: &[i32]) -> (i64, i64) {
     let reach = 8 * setting.dy();
     let heights = || path.iter().skip(1).step_by(2).map(|&y| i64::from(y));
     let (low, high) = (heights().min(), heights().max());

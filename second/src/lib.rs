@@ -1,5 +1,5 @@
 //! The second program as a library: a literal, slow reading of document 01, and of
-//! W1, W2, W4 and W7 in document 02, and of the band from its header, to compare the drawer
+//! W1, W2, W4, W7 and W8 in document 02, and of the band from its header, to compare the drawer
 //! with. `main.rs` has its commands.
 
 pub mod abi;
@@ -41,3 +41,6 @@ pub mod table;
 pub mod table_calls;
 pub mod table_stream;
 pub mod tries;
+pub mod uncut;
+pub mod uncut_kinds;
+pub mod uncut_stream;

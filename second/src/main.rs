@@ -1,4 +1,4 @@
-//! The second program: a literal, slow reading of document 01 and of W1, W2, W4 and W7
+//! The second program: a literal, slow reading of document 01 and of W1, W2, W4, W7 and W8
 //! in document 02, to compare the proved programs with. See README.md for the commands and their
 //! byte streams.
 
@@ -8,7 +8,7 @@ use second::{
     engine, engine_stream, extent, gerber, gerber_cases, gerber_compare, overlay, overlay_pairs,
     paper, paper_rows, pbm, pens, row, segments, stream,
 };
-use second::{row_times, table_calls, tries};
+use second::{row_times, table_calls, tries, uncut, uncut_stream};
 use std::io::{Read, Write};
 use std::process::ExitCode;
 
@@ -27,6 +27,9 @@ const USAGE: &str = "usage: second COMMAND
   engine-steps N SEED
   engine-answers
   compare-engine REQUESTS ANSWERS
+  uncut-calls N SEED
+  uncut-answers
+  compare-uncut REQUESTS ANSWERS
   row COLUMNS ROWS ROW ROOM W P Q X Y [X Y ...]
   row-times literal|fast COLUMNS ROWS ROW COUNT TIMES W P Q X Y [X Y ...]
   pbm COLUMNS ROWS W P Q X Y [X Y ...] [/ W P Q X Y ...]
@@ -85,6 +88,16 @@ fn run(words: &[&str]) -> Result<(), String> {
         ["engine-answers"] => put(&engine::answers(&input()?)?),
         ["compare-engine", requests, answers] => {
             say(engine::compare(&file(requests)?, &file(answers)?))
+        }
+        ["uncut-calls", count, seed] => {
+            let requests = uncut_stream::Source::new(number(seed)?).take(number(count)?);
+            put(&requests
+                .flat_map(|request| request.to_bytes())
+                .collect::<Vec<u8>>())
+        }
+        ["uncut-answers"] => put(&uncut::answers(&input()?)?),
+        ["compare-uncut", requests, answers] => {
+            say(uncut::compare(&file(requests)?, &file(answers)?))
         }
         ["row", columns, rows, row, room, stroke_words @ ..] => {
             let stroke = stroke(stroke_words)?;
