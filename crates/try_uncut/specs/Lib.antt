@@ -1,0 +1,2 @@
+-- What the tool reads.
+pub mod Request
