@@ -12,7 +12,7 @@
 //! The same follows for each step, and all that was lent to it as it is then.
 
 use crate::calls::MOST_QUESTIONS;
-use crate::engine_kinds::{Counts, Driven};
+use crate::engine_kinds::{self, Driven};
 use crate::fast::Drawer;
 use crate::pen;
 use crate::requests;
@@ -20,6 +20,7 @@ use crate::row::{self, done, refused, Answer, Drawn};
 use crate::segment::Segment;
 use crate::setting::Setting;
 use crate::table::Table;
+use crate::tally::Tally;
 use std::fmt;
 
 /// The most numbers that the program under test can lend.
@@ -292,8 +293,8 @@ fn difference(driven: &Driven, own: &[u8], foreign: &[u8]) -> Option<String> {
 
 /// Compares foreign answers with this program's own: what the stream had in it,
 /// or what the first difference is.
-pub fn compared(requests: &[u8], foreign: &[u8]) -> Result<Counts, String> {
-    let mut counts = Counts::default();
+pub fn compared(requests: &[u8], foreign: &[u8]) -> Result<Tally, String> {
+    let mut tally = engine_kinds::none_yet();
     let (mut requests, mut foreign) = (requests, foreign);
     let mut i = 0;
     while !requests.is_empty() {
@@ -307,7 +308,7 @@ pub fn compared(requests: &[u8], foreign: &[u8]) -> Result<Counts, String> {
             complaint = difference(driven, &own, foreign);
             if complaint.is_none() {
                 foreign = &foreign[own.len()..];
-                counts.count(driven);
+                engine_kinds::count(&mut tally, driven);
             }
         });
         if let Some(complaint) = complaint {
@@ -316,10 +317,8 @@ pub fn compared(requests: &[u8], foreign: &[u8]) -> Result<Counts, String> {
         requests = later;
         i += 1;
     }
-    match foreign.len() {
-        0 => Ok(counts),
-        more => Err(format!("{more} bytes too many after the last answer")),
-    }
+    requests::none_left(foreign)?;
+    Ok(tally)
 }
 
 /// The line for a full agreement, or what the first difference is, or which kind
@@ -328,11 +327,7 @@ pub fn compare(requests: &[u8], foreign: &[u8]) -> Result<String, String> {
     if requests.is_empty() {
         return Err("no requests to compare".to_string());
     }
-    let counts = compared(requests, foreign)?;
-    match counts.missing() {
-        Some(kind) => Err(format!("{counts}: none of the kind \"{kind}\"")),
-        None => Ok(format!("{counts}: all equal")),
-    }
+    compared(requests, foreign)?.verdict()
 }
 
 #[cfg(test)]

@@ -1,13 +1,10 @@
 //! What the requests and steps reach that are tried on the engine, counted.
 
 use crate::engine::{Engine, Request};
-use crate::engine_stream::all_pens;
-use crate::pen;
 use crate::row::Answer;
 use crate::segment::Segment;
 use crate::sweep::{centre, Point};
-use std::collections::HashSet;
-use std::fmt;
+use crate::tally::Tally;
 
 /// A start or a step that was answered.
 pub struct Driven<'b, 'a> {
@@ -199,76 +196,26 @@ const SPANS: [SpanKind; 4] = [
 const LONG: u64 = 20_000;
 const LONGEST: u64 = 1_000_000;
 
-/// What a stream had in it.
-#[derive(Default)]
-pub struct Counts {
-    pub steps: u64,
-    starts: [u64; STARTS.len()],
-    driven: [u64; STEPS.len()],
-    spans: [u64; SPANS.len()],
-    /// The pens of the settings that were started with, by their quarters.
-    pens: HashSet<Vec<pen::Corner>>,
+/// What a stream had in it, before it is looked at.
+pub fn none_yet() -> Tally {
+    let kinds = STARTS.iter().chain(&STEPS).map(|kind| kind.0);
+    let spans = SPANS.iter().map(|kind| kind.0);
+    Tally::new(("engine", "steps"), kinds.chain(spans), (LONG, LONGEST))
 }
 
-impl Counts {
-    pub fn count(&mut self, driven: &Driven) {
-        self.steps += u64::from(driven.step.is_some());
-        let (counts, kinds) = match driven.step {
-            None => (&mut self.starts[..], &STARTS[..]),
-            Some(_) => (&mut self.driven[..], &STEPS[..]),
-        };
-        for (count, (_, is)) in counts.iter_mut().zip(kinds) {
-            *count += u64::from(is(driven));
-        }
-        if let Some((first, last)) = driven.run() {
-            for (count, (_, is)) in self.spans.iter_mut().zip(SPANS) {
-                *count += u64::from(is(driven, (first, last, driven.request.columns)));
-            }
-        }
-        if driven.started() {
-            self.pens.extend(pen::quarter(&driven.request.setting));
-        }
+pub fn count(tally: &mut Tally, driven: &Driven) {
+    tally.tried += u64::from(driven.step.is_some());
+    let (first, kinds) = match driven.step {
+        None => (0, &STARTS[..]),
+        Some(_) => (STARTS.len(), &STEPS[..]),
+    };
+    tally.count(first, kinds.iter().map(|(_, is)| is(driven)));
+    if let Some((first, last)) = driven.run() {
+        let span = (first, last, driven.request.columns);
+        let spans = SPANS.iter().map(|(_, is)| is(driven, span));
+        tally.count(STARTS.len() + STEPS.len(), spans);
     }
-
-    fn all(&self) -> impl Iterator<Item = (&'static str, u64)> + '_ {
-        let kinds = STARTS.iter().chain(&STEPS).map(|kind| kind.0);
-        let spans = SPANS.iter().map(|kind| kind.0);
-        let counts = self.starts.iter().chain(&self.driven).chain(&self.spans);
-        kinds.chain(spans).zip(counts.copied())
-    }
-
-    pub fn rarest(&self) -> (&'static str, u64) {
-        let rarest = self.all().min_by_key(|kind| kind.1);
-        rarest.expect("there are kinds")
-    }
-
-    pub fn pens(&self) -> usize {
-        self.pens.len()
-    }
-
-    /// A kind that a long stream does not have.
-    pub fn missing(&self) -> Option<&'static str> {
-        let (kind, count) = self.rarest();
-        if self.steps >= LONG && count == 0 {
-            return Some(kind);
-        }
-        let few = self.steps >= LONGEST && self.pens() < all_pens().len();
-        few.then_some("every pen there is")
-    }
-}
-
-impl fmt::Display for Counts {
-    fn fmt(&self, f: &mut fmt::Formatter) -> fmt::Result {
-        let words: Vec<String> = self
-            .all()
-            .map(|(name, count)| format!("{name}: {count}"))
-            .collect();
-        write!(
-            f,
-            "engine: {} steps, {} pens; {}",
-            self.steps,
-            self.pens(),
-            words.join("; ")
-        )
+    if driven.started() {
+        tally.count_pen(&driven.request.setting);
     }
 }

@@ -15,10 +15,34 @@ type Point = (i64, i64);
 
 pub struct Source {
     sequence: Sequence,
-    /// A setting of each pen, in a mixture, and how many had their turn.
+    pens: Turns,
+    last: Option<Request>,
+}
+
+/// A setting of each pen, in a mixture, and how many had their turn.
+pub(crate) struct Turns {
     pens: Vec<Setting>,
     turns: usize,
-    last: Option<Request>,
+}
+
+impl Turns {
+    pub(crate) fn new(sequence: &mut Sequence) -> Turns {
+        Turns {
+            pens: mixed(sequence, all_pens()),
+            turns: 0,
+        }
+    }
+
+    /// The next pen's.
+    pub(crate) fn take(&mut self) -> Setting {
+        self.turns += 1;
+        self.pens[(self.turns - 1) % self.pens.len()]
+    }
+
+    /// Those that are such.
+    pub(crate) fn such(&self, is: impl Fn(&Setting) -> bool) -> Vec<Setting> {
+        self.pens.iter().copied().filter(is).collect()
+    }
 }
 
 /// A setting of each pen there is.
@@ -29,7 +53,7 @@ pub fn all_pens() -> Vec<Setting> {
     settings
 }
 
-pub(crate) fn mixed(sequence: &mut Sequence, mut settings: Vec<Setting>) -> Vec<Setting> {
+fn mixed(sequence: &mut Sequence, mut settings: Vec<Setting>) -> Vec<Setting> {
     for i in (1..settings.len()).rev() {
         settings.swap(i, sequence.below(i as u64 + 1) as usize);
     }
@@ -185,11 +209,9 @@ fn spoil(sequence: &mut Sequence, request: &mut Request, fault: u8) {
 impl Source {
     pub fn new(seed: u64) -> Source {
         let mut sequence = Sequence::new(seed);
-        let pens = mixed(&mut sequence, all_pens());
         Source {
+            pens: Turns::new(&mut sequence),
             sequence,
-            pens,
-            turns: 0,
             last: None,
         }
     }
@@ -200,8 +222,7 @@ impl Source {
         if faulty || self.sequence.below(5) == 0 {
             return some_setting(&mut self.sequence);
         }
-        self.turns += 1;
-        self.pens[(self.turns - 1) % self.pens.len()]
+        self.pens.take()
     }
 
     fn some_rows(&mut self) -> u64 {

@@ -40,6 +40,7 @@ pub mod sweep;
 pub mod table;
 pub mod table_calls;
 pub mod table_stream;
+pub mod tally;
 pub mod tries;
 pub mod uncut;
 pub mod uncut_kinds;

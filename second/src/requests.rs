@@ -28,3 +28,11 @@ pub fn path(bytes: &[u8], entries: u64) -> Result<(Vec<i32>, &[u8]), String> {
     let path = fours.map(|four| i32::from_le_bytes(four.try_into().expect("four bytes")));
     Ok((path.collect(), rest))
 }
+
+/// That no answer follows the last one.
+pub fn none_left(answers: &[u8]) -> Result<(), String> {
+    match answers.len() {
+        0 => Ok(()),
+        more => Err(format!("{more} bytes too many after the last answer")),
+    }
+}

@@ -13,6 +13,7 @@
 
 use crate::calls::MOST_QUESTIONS;
 use crate::fast::Drawer;
+use crate::requests;
 use crate::row::{self, Answer, Request};
 use crate::setting::Setting;
 use crate::table::Table;
@@ -352,10 +353,8 @@ pub fn compared(commands: &[u8], foreign: &[u8]) -> Result<Counts, String> {
         (commands, foreign) = (later, after);
         i += 1;
     }
-    match foreign.len() {
-        0 => Ok(counts),
-        more => Err(format!("{more} bytes too many after the last answer")),
-    }
+    requests::none_left(foreign)?;
+    Ok(counts)
 }
 
 /// The line for a full agreement, or what the first difference is.

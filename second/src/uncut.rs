@@ -17,7 +17,8 @@ use crate::segment::Segment;
 use crate::setting::Setting;
 use crate::sweep::{centre, Sweep};
 use crate::table::Table;
-use crate::uncut_kinds::{Called, Counts};
+use crate::tally::Tally;
+use crate::uncut_kinds::{self, Called};
 use std::fmt;
 
 #[derive(Clone, Debug, PartialEq, Eq)]
@@ -205,8 +206,8 @@ fn show(answer: &[u8]) -> String {
 
 /// Compares foreign answers with this program's own: what the stream had in it, or
 /// what the first difference is.
-pub fn compared(requests: &[u8], foreign: &[u8]) -> Result<Counts, String> {
-    let mut counts = Counts::default();
+pub fn compared(requests: &[u8], foreign: &[u8]) -> Result<Tally, String> {
+    let mut tally = uncut_kinds::none_yet();
     let (mut requests, mut foreign) = (requests, foreign);
     let mut i = 0;
     while !requests.is_empty() {
@@ -225,18 +226,17 @@ pub fn compared(requests: &[u8], foreign: &[u8]) -> Result<Counts, String> {
                 show(one)
             ));
         }
-        counts.count(&Called {
+        let called = Called {
             request: &request,
             reached,
             sweep: sweep.as_ref(),
-        });
+        };
+        uncut_kinds::count(&mut tally, &called);
         (requests, foreign) = (later, after);
         i += 1;
     }
-    match foreign.len() {
-        0 => Ok(counts),
-        more => Err(format!("{more} bytes too many after the last answer")),
-    }
+    requests::none_left(foreign)?;
+    Ok(tally)
 }
 
 /// The line for a full agreement, or what the first difference is, or which kind
@@ -245,11 +245,7 @@ pub fn compare(requests: &[u8], foreign: &[u8]) -> Result<String, String> {
     if requests.is_empty() {
         return Err("no requests to compare".to_string());
     }
-    let counts = compared(requests, foreign)?;
-    match counts.missing() {
-        Some(kind) => Err(format!("{counts}: none of the kind \"{kind}\"")),
-        None => Ok(format!("{counts}: all equal")),
-    }
+    compared(requests, foreign)?.verdict()
 }
 
 #[cfg(test)]

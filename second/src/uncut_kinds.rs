@@ -1,12 +1,9 @@
 //! What the requests reach that are tried on the extent given uncut, counted.
 
-use crate::engine_stream::all_pens;
-use crate::pen;
 use crate::segment::Segment;
 use crate::sweep::{centre, Sweep};
+use crate::tally::Tally;
 use crate::uncut::{Reached, Request};
-use std::collections::HashSet;
-use std::fmt;
 
 /// A request that was answered.
 pub struct Called<'a> {
@@ -226,71 +223,16 @@ const KINDS: [Kind; 66] = [
 const LONG: u64 = 20_000;
 const LONGEST: u64 = 100_000;
 
-/// What a stream had in it.
-pub struct Counts {
-    requests: u64,
-    kinds: [u64; KINDS.len()],
-    /// The pens of the settings that were answered for, by their quarters.
-    pens: HashSet<Vec<pen::Corner>>,
+/// What a stream had in it, before it is looked at.
+pub fn none_yet() -> Tally {
+    let kinds = KINDS.iter().map(|kind| kind.0);
+    Tally::new(("uncut", "requests"), kinds, (LONG, LONGEST))
 }
 
-impl Default for Counts {
-    fn default() -> Counts {
-        Counts {
-            requests: 0,
-            kinds: [0; KINDS.len()],
-            pens: HashSet::new(),
-        }
-    }
-}
-
-impl Counts {
-    pub fn count(&mut self, called: &Called) {
-        self.requests += 1;
-        for (count, (_, is)) in self.kinds.iter_mut().zip(KINDS) {
-            *count += u64::from(is(called));
-        }
-        if called.done() {
-            self.pens.extend(pen::quarter(&called.request.setting));
-        }
-    }
-
-    fn all(&self) -> impl Iterator<Item = (&'static str, u64)> + '_ {
-        KINDS.iter().map(|kind| kind.0).zip(self.kinds)
-    }
-
-    pub fn rarest(&self) -> (&'static str, u64) {
-        let rarest = self.all().min_by_key(|kind| kind.1);
-        rarest.expect("there are kinds")
-    }
-
-    pub fn pens(&self) -> usize {
-        self.pens.len()
-    }
-
-    /// A kind that a long stream does not have.
-    pub fn missing(&self) -> Option<&'static str> {
-        let (kind, count) = self.rarest();
-        if self.requests >= LONG && count == 0 {
-            return Some(kind);
-        }
-        let few = self.requests >= LONGEST && self.pens() < all_pens().len();
-        few.then_some("every pen there is")
-    }
-}
-
-impl fmt::Display for Counts {
-    fn fmt(&self, f: &mut fmt::Formatter) -> fmt::Result {
-        let words: Vec<String> = self
-            .all()
-            .map(|(name, count)| format!("{name}: {count}"))
-            .collect();
-        write!(
-            f,
-            "uncut: {} requests, {} pens; {}",
-            self.requests,
-            self.pens(),
-            words.join("; ")
-        )
+pub fn count(tally: &mut Tally, called: &Called) {
+    tally.tried += 1;
+    tally.count(0, KINDS.iter().map(|(_, is)| is(called)));
+    if called.done() {
+        tally.count_pen(&called.request.setting);
     }
 }

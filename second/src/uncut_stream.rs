@@ -4,7 +4,7 @@
 //! one fault or several.
 
 use crate::calls::{bad_coordinate, bad_setting, far_number};
-use crate::engine_stream::{all_pens, mixed, some_path, touched};
+use crate::engine_stream::{some_path, touched, Turns};
 use crate::pen;
 use crate::segments::{between, some_setting, some_step, LIMIT};
 use crate::setting::Setting;
@@ -19,9 +19,7 @@ const TOP: i64 = 16_383;
 
 pub struct Source {
     sequence: Sequence,
-    /// A setting of each pen, in a mixture, and how many had their turn.
-    pens: Vec<Setting>,
-    turns: usize,
+    pens: Turns,
     /// Those that are 32 pixels wide, and reach furthest.
     widest: Vec<Setting>,
     /// Those of up to two pixels, which pass between centres.
@@ -173,14 +171,12 @@ fn spoil(sequence: &mut Sequence, request: &mut Request, fault: u8) {
 impl Source {
     pub fn new(seed: u64) -> Source {
         let mut sequence = Sequence::new(seed);
-        let pens = mixed(&mut sequence, all_pens());
-        let such = |is: fn(&Setting) -> bool| pens.iter().copied().filter(is).collect();
+        let pens = Turns::new(&mut sequence);
         Source {
             sequence,
-            widest: such(|s| s.dx() == 32),
-            thin: such(|s| s.dx() <= 2 && s.dy() <= 2),
+            widest: pens.such(|s| s.dx() == 32),
+            thin: pens.such(|s| s.dx() <= 2 && s.dy() <= 2),
             pens,
-            turns: 0,
         }
     }
 
@@ -191,10 +187,7 @@ impl Source {
         match sequence.below(12) {
             0 => one_of(sequence, &self.thin),
             n if n < 3 || faulty => some_setting(sequence),
-            _ => {
-                self.turns += 1;
-                self.pens[(self.turns - 1) % self.pens.len()]
-            }
+            _ => self.pens.take(),
         }
     }
 
