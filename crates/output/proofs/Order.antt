@@ -96,6 +96,10 @@ module _ (d : Drawing) (columns rows : ℕ) where
   put-passed first n b e =
       band-gave d columns rows first n (packedLength columns) b (record { wide = record { enough = omega arith; least = omega arith }; answer = e }) .passed
 
+  -- and the answer of the call that put it tells so
+  pub answer-passed : {r : Result ℕ} (first n : ℕ) (b : List ℕ) → r ≡ bandPut d columns rows first n b → r .answer .refusal ≡ 0 → bandVerdict d columns rows first n ≡ Passed
+  answer-passed first n b e done = put-passed first n b (sym (ap (λ (s : Result ℕ). s .answer .refusal) e) ∙ done)
+
 pub bands-taken : BandsTaken
 bands-taken d columns rows first n = record {
   none = λ b e.

@@ -1,15 +1,15 @@
 -- True is answered only where the top band was put. The rows are there, or what is told of them is the drawing's refusal.
 use Prim.Native.Nat.{ℕ, _+_, _≤_}
 use native.Mathlib.Omega.{arith}
-use mathlib.Core.Path.{_≡_, refl, sym, ap, _∙_}
+use mathlib.Core.Path.{_≡_, refl, sym, _∙_}
+use mathlib.Core.List.{List}
 use mathlib.Core.Bool.{Bool, true, false, not}
-use lib.ListN.{replicate}
+use lib.ListN.{length, replicate, length-replicate}
 use denote.Ref.{now}
 use Rattle.integers.proofs.Tests.{clash}
-use Rattle.checks.specs.Answer.{Result}
 use Rattle.drawing.specs.Strokes.{drawingOf}
 use Rattle.output.specs.Bands.{bandBytes}
-use Rattle.output.proofs.Order.{put-passed, rows-inside}
+use Rattle.output.proofs.Order.{answer-passed, rows-inside}
 use borrow.Author.Needs.{needs}
 use Rattle.output.proofs.write.Statement.{statement}
 use Rattle.output.proofs.write.Tie as tie
@@ -28,6 +28,14 @@ inside c =
     let a = start k .args in
     rows-inside (a .rows) (a .first) (a .n) (sym (k .rows-check .ensures) ∙ c .enum-told2 .given .1)
 
+-- the buffer as it is made
+abbrev made : List ℕ
+made = replicate bandBytes 0
+
+-- it is as long as was asked: by the lemma, for to compute it would be to count half a million bytes one by one
+made-long : bandBytes ≡ length made
+made-long = sym (length-replicate {A = ℕ} bandBytes 0)
+
 rows-check-requires : tie.Need-rows-check-requires
 rows-check-requires c κs = search needs
 
@@ -35,13 +43,13 @@ enum-told : tie.Need-enum-told
 enum-told c = search needs
 
 slice-aggregate-put-band : tie.Need-slice-aggregate-put-band
-slice-aggregate-put-band c = search needs
+slice-aggregate-put-band c = made-long
 
 put-band-requires : tie.Need-put-band-requires
 put-band-requires c κs = search needs
 
 slice-aggregate-deliver : tie.Need-slice-aggregate-deliver
-slice-aggregate-deliver c = search needs
+slice-aggregate-deliver c = sym (c .before .out2 .given)
 
 deliver-requires : tie.Need-deliver-requires
 deliver-requires c κs = search needs
@@ -51,13 +59,13 @@ returns c e =
     let put = c .before .before .before in
     let a = start (put .before .before .before .before) .args in
     let d = drawingOf (now (a .settings)) (now (a .apertures)) (now (a .starts)) (now (a .entries)) in
-    put-passed d (a .columns) (a .rows) (a .first) (a .n) (replicate bandBytes 0) (sym (ap (λ (r : Result ℕ). r .answer .refusal) (put .put-band .ensures)) ∙ c .deliver .ensures .0 e)
+    answer-passed d (a .columns) (a .rows) (a .first) (a .n) made (put .put-band .ensures) (c .deliver .ensures .0 e)
 
 enum-told-2 : tie.Need-enum-told-2
 enum-told-2 c = search needs
 
 slice-aggregate-write-top : tie.Need-slice-aggregate-write-top
-slice-aggregate-write-top c = search needs
+slice-aggregate-write-top c = made-long
 
 write-top-requires : tie.Need-write-top-requires
 write-top-requires c κs = inside (c .before)
@@ -72,7 +80,7 @@ sub-left : tie.Need-sub-left
 sub-left c = omega (arith, c .rows-of .ensures)
 
 slice-aggregate-write-rest : tie.Need-slice-aggregate-write-rest
-slice-aggregate-write-rest c = search needs
+slice-aggregate-write-rest c = sym (c .before .before .before .out5 .given)
 
 write-rest-requires : tie.Need-write-rest-requires
 write-rest-requires c κs = omega (arith, c .before .rows-of .ensures, inside (c .before .before .before .before .before .before))
