@@ -5,13 +5,13 @@ use mathlib.Core.Path.{_≡_, refl, sym, ap, _∙_}
 use Prim.Native.Nat.{ℕ, suc, _+_, _*_, _-_, _^_, _≤_, _<_}
 use native.Mathlib.Numerals.{add-one}
 use native.Mathlib.Omega.{arith}
-use mir.Syntax.{w32}
-use mir.Val.{toZ, ofZ, hbits}
+use mir.Syntax.{w32, w64}
+use mir.Val.{Fits, toZ, ofZ, hbits}
 use lib.Signed.{mag}
 use lib.IntN.{ℤ, pos}
 use lib.ListN.{length, getD, take}
 use lib.Seq.{take-all}
-use borrow.Author.Needs.{needs}
+use borrow.Author.Needs.{needs, scaled-fits}
 use Rattle.integers.proofs.Machine.{read-back}
 use Rattle.limits.specs.Sizes.{inRange}
 use Rattle.plane.specs.Point.{Pt, corners}
@@ -86,6 +86,10 @@ start-of c = start-in (start (c .before) .args .path .now) (c .before .loop .k) 
 ends : (c : tie.After-end-of Inv-loop μ-loop) → EndsAt (start (looped c) .args .path .now) (looped c .loop .k) (c .end-of .result)
 ends c = c .end-of .ensures (one-of (c .before))
 
+-- an entry's place in bytes: those of the whole path can be addressed
+scaled : (c : tie.At-loop Inv-loop μ-loop) (i : ℕ) → i < length (start c .args .path .now) → Fits w64 (i * 4)
+scaled c i h = scaled-fits i (length (start c .args .path .now)) 4 h (start c .good .1 .1 .1 .1 .0 .1)
+
 -- an entry that was read
 in-range : (z : ℤ) → mag z < 2 ^ hbits w32 → inRange z ≡ true → inRange (toZ w32 (ofZ w32 z)) ≡ true
 in-range z h e = ap inRange (read-back w32 h) ∙ e
@@ -113,34 +117,34 @@ end-of-requires : tie.Need-end-of-requires Inv-loop μ-loop
 end-of-requires c κs = search needs
 
 mul-lay-segment : tie.Need-mul-lay-segment Inv-loop μ-loop
-mul-lay-segment c = search (needs, start-of (c .before .before))
+mul-lay-segment c = let k = c .before .before in scaled (k .before) (2 * k .before .loop .k) (omega (arith, start-of k))
 
 shared-slice-copy-out-lay-segment : tie.Need-shared-slice-copy-out-lay-segment Inv-loop μ-loop
-shared-slice-copy-out-lay-segment c = search (needs, start-of (c .before .before))
+shared-slice-copy-out-lay-segment c = omega (arith, start-of (c .before .before))
 
 add-lay-segment : tie.Need-add-lay-segment Inv-loop μ-loop
-add-lay-segment c = search (needs, start-of (c .before .before .before))
+add-lay-segment c = record { fits = omega (arith, start-of (c .before .before .before)) }
 
 mul-lay-segment-2 : tie.Need-mul-lay-segment-2 Inv-loop μ-loop
-mul-lay-segment-2 c = search (needs, start-of (c .before .before .before))
+mul-lay-segment-2 c = let k = c .before .before .before in scaled (k .before) (2 * k .before .loop .k + 1) (start-of k)
 
 shared-slice-copy-out-lay-segment-2 : tie.Need-shared-slice-copy-out-lay-segment-2 Inv-loop μ-loop
-shared-slice-copy-out-lay-segment-2 c = search (needs, start-of (c .before .before .before))
+shared-slice-copy-out-lay-segment-2 c = start-of (c .before .before .before)
 
 mul-lay-segment-3 : tie.Need-mul-lay-segment-3 Inv-loop μ-loop
-mul-lay-segment-3 c = search (needs, ends (c .before .before .before))
+mul-lay-segment-3 c = let k = c .before .before .before in scaled (looped k) (k .end-of .result) (omega (arith, ends k .held))
 
 shared-slice-copy-out-lay-segment-3 : tie.Need-shared-slice-copy-out-lay-segment-3 Inv-loop μ-loop
-shared-slice-copy-out-lay-segment-3 c = search (needs, ends (c .before .before .before))
+shared-slice-copy-out-lay-segment-3 c = omega (arith, ends (c .before .before .before) .held)
 
 add-lay-segment-2 : tie.Need-add-lay-segment-2 Inv-loop μ-loop
-add-lay-segment-2 c = search (needs, ends (c .before .before .before .before))
+add-lay-segment-2 c = record { fits = omega (arith, ends (c .before .before .before .before) .held) }
 
 mul-lay-segment-4 : tie.Need-mul-lay-segment-4 Inv-loop μ-loop
-mul-lay-segment-4 c = search (needs, ends (c .before .before .before .before))
+mul-lay-segment-4 c = let k = c .before .before .before .before in scaled (looped k) (k .end-of .result + 1) (ends k .held)
 
 shared-slice-copy-out-lay-segment-4 : tie.Need-shared-slice-copy-out-lay-segment-4 Inv-loop μ-loop
-shared-slice-copy-out-lay-segment-4 c = search (needs, ends (c .before .before .before .before))
+shared-slice-copy-out-lay-segment-4 c = ends (c .before .before .before .before) .held
 
 lay-segment-requires : tie.Need-lay-segment-requires Inv-loop μ-loop
 lay-segment-requires c κs =
