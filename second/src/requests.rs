@@ -1,6 +1,8 @@
 //! Requests as streams of bytes: numbers of eight bytes each and coordinates of four,
 //! lowest byte first.
 
+use crate::tally::Tally;
+
 /// So many bytes, and what follows them.
 pub fn cut(bytes: &[u8], length: usize) -> Result<(&[u8], &[u8]), String> {
     match length <= bytes.len() {
@@ -35,4 +37,18 @@ pub fn none_left(answers: &[u8]) -> Result<(), String> {
         0 => Ok(()),
         more => Err(format!("{more} bytes too many after the last answer")),
     }
+}
+
+/// The line for a full agreement, or what the first difference is, or which kind
+/// never occurs though the stream is long. Requests and answers are compared by
+/// `compared`.
+pub fn compare(
+    requests: &[u8],
+    foreign: &[u8],
+    compared: fn(&[u8], &[u8]) -> Result<Tally, String>,
+) -> Result<String, String> {
+    if requests.is_empty() {
+        return Err("no requests to compare".to_string());
+    }
+    compared(requests, foreign)?.verdict()
 }

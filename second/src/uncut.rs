@@ -239,13 +239,8 @@ pub fn compared(requests: &[u8], foreign: &[u8]) -> Result<Tally, String> {
     Ok(tally)
 }
 
-/// The line for a full agreement, or what the first difference is, or which kind
-/// never occurs though the stream is long.
 pub fn compare(requests: &[u8], foreign: &[u8]) -> Result<String, String> {
-    if requests.is_empty() {
-        return Err("no requests to compare".to_string());
-    }
-    compared(requests, foreign)?.verdict()
+    requests::compare(requests, foreign, compared)
 }
 
 #[cfg(test)]

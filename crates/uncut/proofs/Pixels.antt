@@ -7,15 +7,15 @@ use mathlib.Core.Logic.{_↔_, inl, inr, Iff·trans}
 use mathlib.Core.Bool.{true}
 use mathlib.Core.List.{List, [], _∷_, List·Memᴰ·not-nil as not-nil, List·Memᴰ·cases-cons as cases, List·Memᴰ·head as head}
 use lib.IntN.{ℤ, pos, negℤ, _-ℤ_, _+ℤ_, _*ℤ_}
-use lib.Signed.{leZ}
 use borrow.Author.Tests.{le-leb}
 use Rattle.integers.specs.Orders.{_≼_, _≺_}
 use Rattle.integers.specs.Compare.{minZ, maxZ}
 use Rattle.integers.specs.Count.{_∈_}
 use Rattle.integers.proofs.Ring.{ring, reify}
 use Rattle.integers.proofs.Order.{le-refl, le-antisymm}
-use Rattle.integers.proofs.Tests.{and-both, le-true, le-iff, max-le, le-min}
-use Rattle.limits.specs.Sizes.{rasterMax, coordinateMax, inRange}
+use Rattle.integers.proofs.Bound.{abs-iff}
+use Rattle.integers.proofs.Tests.{le-iff, max-le, le-min}
+use Rattle.limits.specs.Sizes.{rasterMax, inRange}
 use Rattle.limits.specs.declared.Verdict.{Verdict}
 use Rattle.limits.specs.declared.Verdict.the-variants.{Passed, Refused}
 use Rattle.plane.specs.Point.{Pt}
@@ -36,6 +36,7 @@ use Rattle.extent.specs.declared.Extent.{Extent}
 use Rattle.extent.specs.declared.Extent.the-variants as extent·
 use Rattle.extent.specs.Answer.{answered}
 use Rattle.checks.proofs.Verdicts.{verdict-passed}
+use Rattle.flanks.proofs.Bound.{range-abs}
 use Rattle.engine.proofs.OneSegment.{segmentOf, one-segment, entries-in, last}
 use Rattle.engine.proofs.Starting.{Passes}
 use Rattle.uncut.specs.declared.Reached.{Reached}
@@ -94,8 +95,7 @@ right-end : (m D i : ℤ) → m ≼ pos 262144 → D ≼ pos 32 → pos 16 *ℤ 
 right-end = ring 3 _ (λ ρ. simp (reify, ρ) (omega arith))
 
 in-range : (z : ℤ) → inRange z ≡ true → (negℤ (pos 262144) ≼ z) × (z ≼ pos 262144)
-unfolding inRange
-in-range z e = let b = and-both (leZ (negℤ (pos coordinateMax)) z) (leZ z (pos coordinateMax)) e in (le-true (b .0), le-true (b .1))
+in-range z e = abs-iff z 262144 .0 (range-abs z e)
 
 -- an extent that has columns is no refusal's
 abbrev HasColumns : Extent → Type 0

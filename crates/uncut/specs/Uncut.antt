@@ -17,7 +17,7 @@ use Rattle.checks.specs.Answer.{done, answerOf}
 use Rattle.engine.specs.Engine.{startVerdict}
 use Rattle.uncut.specs.declared.Reached.{Reached}
 
--- "It is asked as W2's start is, without a raster (so a row above 16,383 is 5)": in the greatest raster there is, which has no other row too many
+-- "It is asked as W2's start is, without a raster (so a row above 16,383 is 5)": in the greatest raster there is, which is never refused itself, and has every row up to 16,383
 abbrev pub reachVerdict : Table → ℕ → List ℤ → ℕ → Verdict
 reachVerdict t n p j = startVerdict t n p rasterMax rasterMax j
 
