@@ -3,6 +3,8 @@
 //
 // No function asks anything of the table it is given: each answer is the one of specs/Table.antt
 // for whatever the places hold. What tables made here hold is said by specs/Reachable.antt.
+#![tactic(auto)]
+
 ghost use Rattle.std.specs.Prelude.{◌≡◌, true};
 ghost use Rattle.setting.specs.Setting.{Taken};
 ghost use Rattle.aperture.specs.Table.{is_number, vacant, holding, empty, place_of, with_place, is_held, defined, removed, looked};

@@ -3,6 +3,8 @@
 // The way of the data: the checks in document 01's order, the rows of the band that the path
 // reaches (drawn), the pen, once, tiles of these rows (tiles), the segments of the path in each
 // (path), and the rows of a segment one after another, upwards, between its flanks (segment).
+#![tactic(auto)]
+
 ghost use Rattle.std.specs.Prelude.{◌≡◌};
 ghost use Rattle.band.specs.Band.{top_row, room_for, band_call};
 

@@ -4,6 +4,8 @@
 // Standard input is nine numbers of eight bytes each, lowest byte first: 0 for the engine or 1 for row
 // calls; w, p and q; columns and rows; the first row, how many rows, and how often. The path follows,
 // four bytes to an entry, of which it has four.
+#![tactic(auto)]
+
 use aperture::Table;
 use checks::Answer;
 use libc::{STDIN_FILENO, STDOUT_FILENO};

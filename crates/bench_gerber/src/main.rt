@@ -3,6 +3,8 @@
 //
 // A file may give more entries than a path holds: behind each stroke the reader is made to start at the
 // path's first entry again, as if the stroke had been drawn and were not wanted any more.
+#![tactic(auto)]
+
 ghost use Rattle.std.specs.Prelude.{◌+◌, ◌≤◌, length};
 
 use aperture::Table;

@@ -1,5 +1,7 @@
 // A row of pixels as bits: a byte for each eight columns, the leftmost pixel in the highest bit,
 // black 1.
+#![tactic(auto)]
+
 ghost use Rattle.std.specs.Prelude.{◌≡◌, ◌+◌, ◌*◌};
 ghost use Rattle.bits.specs.Bits.{packed_length, bit_at, span, blackened};
 

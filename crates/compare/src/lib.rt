@@ -4,6 +4,8 @@
 //
 // The way of the data: the two headers (headers_check), the ends of both files (last_byte,
 // ends_check), the line of a refusal (put_refusal) or the rows one after the other (next_row).
+#![tactic(auto)]
+
 ghost use Rattle.std.specs.Prelude.{◌≡◌, ◌&&◌, eqb};
 ghost use Rattle.text.specs.Put.{put_at};
 ghost use Rattle.text.specs.Ascii.{ascii};

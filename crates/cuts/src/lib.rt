@@ -3,6 +3,8 @@
 // The way of the data: each segment's columns are cut to the raster (cut), and laid over the bytes
 // of a row (over). Most rows are touched by two segments at most, which can be known before. What
 // each function promises is cited from specs/.
+#![tactic(auto)]
+
 ghost use Rattle.std.specs.Prelude.{◌≡◌, ◌&&◌, leb};
 ghost use Rattle.plane.specs.Point.{corners};
 ghost use Rattle.limits.specs.Sizes.{is_size};

@@ -4,6 +4,8 @@
 // corner nearest the bottom is cut by steps 1 to 5 (cut, which asks for near roots: root) until it
 // is put out, and so on until no corner is left (corners). What each function promises is cited from
 // the crate quarter; what the structs hold on the way, from specs/.
+#![tactic(auto)]
+
 ghost use Rattle.std.specs.Prelude.{◌≡◌};
 ghost use Rattle.quarter.specs.Answer.{cornered};
 

@@ -1,1 +1,2 @@
 // The three demands, said of every call that a host makes: definitions and theorems, no code.
+#![tactic(auto)]

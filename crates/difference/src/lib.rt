@@ -1,5 +1,7 @@
 // Two packed rows laid over each other: how many pixels differ. A row has a byte for each eight
 // columns, the leftmost pixel in the highest bit.
+#![tactic(auto)]
+
 ghost use Rattle.std.specs.Prelude.{◌≡◌};
 ghost use Rattle.difference.specs.Apart.{counted};
 ghost use Rattle.difference.specs.Code.{same_word};

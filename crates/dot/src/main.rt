@@ -1,5 +1,7 @@
 // Document 01's whole PBM file of a dot, on standard output: w=16, dot at (32,16), 5 columns, 3
 // rows.
+#![tactic(auto)]
+
 ghost use Rattle.std.specs.Prelude.{◌≡◌};
 ghost use Rattle.limits.specs.declared.Verdict.TheVariants.{Passed};
 ghost use Rattle.checks.specs.Answer.{given};

@@ -3,6 +3,8 @@
 // Source document 001, figure 14: where the edge meets the row is kept as a whole column and a
 // remainder, and one row up is two sums and a test. An edge costs two divisions, a steep one only
 // one, and a row none.
+#![tactic(auto)]
+
 ghost use Rattle.std.specs.Prelude.{◌≡◌, ◌&&◌};
 ghost use Rattle.integers.specs.Floor.{floor_div};
 ghost use Rattle.edge.specs.Edge.{nowhere, is_small, fair, near, raised, placed};

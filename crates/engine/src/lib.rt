@@ -3,6 +3,8 @@
 // It carries the two flanks of the segment's sweep from row to row (crate flanks), and looks at no
 // side of it. It calls nothing of what answers a row call: that both give the same is proved, and
 // holds no more than what each of them does.
+#![tactic(auto)]
+
 ghost use Rattle.std.specs.Prelude.{◌≡◌, ◌≤◌, ◌<◌, length};
 ghost use Rattle.limits.specs.declared.Verdict.TheVariants.{Passed};
 ghost use Rattle.checks.specs.Answer.{answer_of, given};

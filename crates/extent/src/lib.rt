@@ -3,6 +3,8 @@
 // The way of the data: the segment and the row are checked against document 01's limits, the sides
 // of the segment's sweep (side), counted from the row, narrow the row's columns one after the other
 // (limit), and what is left is the answer. What each function promises is cited from specs/.
+#![tactic(auto)]
+
 ghost use Rattle.std.specs.Prelude.{◌≡◌, ◌&&◌, ◌<◌, pos};
 ghost use Rattle.plane.specs.Point.{corners};
 ghost use Rattle.pen.specs.Answer.{pen_corners};

@@ -1,5 +1,7 @@
 // Writes the film of a panel legend on standard output, as a raw PBM file. The legend is Gerber text
 // (legend): its strokes are read into lists, and of these the film is drawn band by band.
+#![tactic(auto)]
+
 ghost use Rattle.std.specs.Prelude.{◌≡◌, replicate, pos};
 ghost use Rattle.film.specs.Legend.{legend};
 

@@ -5,6 +5,8 @@
 // The way of the data: the film is checked (film_checks); and of a film that passes any band can be put,
 // so that a film of any size is written with little memory. Its bytes are cleared, and the strokes laid
 // over them (laid).
+#![tactic(auto)]
+
 ghost use Rattle.std.specs.Prelude.{◌≡◌};
 ghost use Rattle.drawing.specs.Strokes.{drawing_of};
 ghost use Rattle.drawing.specs.Film.{band_put};

@@ -2,6 +2,8 @@
 // each stroke (strokes), then the raster, and then the rows that are asked for. The crate drawing defines
 // it. A drawing is four lists: the settings of the apertures from 10 on, w, p, q of each; the aperture of
 // each stroke; where each stroke's entries start, with the end of the last; the entries of all.
+#![tactic(auto)]
+
 ghost use Rattle.std.specs.Prelude.{◌≡◌};
 ghost use Rattle.checks.specs.Checks.{row_verdict};
 ghost use Rattle.band.specs.Band.{top_row};

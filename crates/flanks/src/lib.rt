@@ -8,6 +8,8 @@
 //
 // No function asks anything of what it is given: the answers are those of specs/Flanks.antt for
 // whatever the numbers are.
+#![tactic(auto)]
+
 ghost use Rattle.std.specs.Prelude.{◌≡◌, true, false, ◌^◌, pos, ◌*ℤ◌};
 ghost use Rattle.integers.specs.Bound.{Abs};
 ghost use Rattle.flanks.specs.Flanks.{ordered, held_of, idle, nowhere, begun, inside_of, climbed, risen, count_to, cut_at};

@@ -7,6 +7,8 @@
 // `next` goes into the next call, with the same table, path and lists. Behind the file's last chunk `finish`
 // says Done or Refused. After Done stroke k has aperture apertures[k], and its entries are those of the path
 // from starts[k] to starts[k + 1].
+#![tactic(auto)]
+
 ghost use Rattle.std.specs.Prelude.{ℕ, ◌≡◌, ◌&&◌, List, ltb, ℤ};
 ghost use Rattle.gather.specs.Gather.{begun, handed_of, notes_of, noted, together, gathered, verdict_of, is_complete, closed, finishing};
 

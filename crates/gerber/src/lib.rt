@@ -6,6 +6,8 @@
 // `fed.given` says what came of the chunk: More (all of it is used), a Stroke in the path, whose bytes
 // behind `fed.used` are to be lent again, or Refused. `fed.reader` goes into the next call, and the same
 // path. At the end of the file `finish` says Done or Refused.
+#![tactic(auto)]
+
 ghost use Rattle.std.specs.Prelude.{◌≡◌, not, eqb};
 ghost use Rattle.gerber.specs.Reader.{started, repeated, feeds, finished, finished_on};
 

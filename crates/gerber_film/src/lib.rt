@@ -1,1 +1,2 @@
 // A whole Gerber file as a drawing: definitions and theorems, no code.
+#![tactic(auto)]

@@ -3,6 +3,8 @@
 // The way of the data: the path's coordinates from bytes (wire), the checks, the setting's pen where
 // the path reaches the row (miss), the row's answer (row, packed), and the answer in one number
 // (outcome); answer leads through these.
+#![tactic(auto)]
+
 ghost use Rattle.std.specs.Prelude.{◌≡◌};
 ghost use Rattle.host.specs.Host.{host_row, host_packed_row};
 

@@ -2,6 +2,8 @@
 //
 // The way of the data: the path's coordinates from bytes (wire), the band's rows for the setting
 // (band), and the answer in one number (outcome); answer leads through these.
+#![tactic(auto)]
+
 ghost use Rattle.std.specs.Prelude.{◌≡◌};
 ghost use Rattle.host_band.specs.HostBand.{host_band};
 

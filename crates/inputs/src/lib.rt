@@ -1,4 +1,6 @@
 // What a program is given: numbers among the words of its command line, and standard input.
+#![tactic(auto)]
+
 ghost use Rattle.std.specs.Prelude.{◌≡◌, ◌+◌, ◌≤◌, length};
 ghost use Rattle.io.specs.Counts.{IsPrefixLen};
 ghost use Rattle.inputs.specs.Number.{lengthened, grown, number_of};

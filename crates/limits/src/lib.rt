@@ -1,5 +1,7 @@
 // Document 01's sizes and refusal numbers: each stands here, and nowhere else in the code. The same
 // numbers for the definitions are in specs/: Refusal and Sizes, line for line.
+#![tactic(auto)]
+
 ghost use Rattle.std.specs.Prelude.{◌≡◌};
 ghost use Rattle.limits.specs.Sizes.{within, in_range, is_size};
 

@@ -1,4 +1,6 @@
 // The lines that tell where two packed rows differ, as text in a lent buffer.
+#![tactic(auto)]
+
 ghost use Rattle.std.specs.Prelude.{◌≡◌};
 ghost use Rattle.lines.specs.Put.{is_whole, is_ready, row_put};
 

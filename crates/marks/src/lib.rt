@@ -2,6 +2,7 @@
 //
 // What is refused is told at the first byte of its command, or at the file's end. The first byte may have
 // come chunks ago, since a comment can be megabytes long: so its line and column are kept.
+#![tactic(auto)]
 
 ghost use Rattle.std.specs.Prelude.{◌≡◌, length, ◌==◌};
 ghost use Rattle.marks.specs.Marks.{first_mark, behind, past, front_of, begun, advanced, mark_of};

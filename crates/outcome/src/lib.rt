@@ -1,4 +1,6 @@
 // What the functions for C share: how many bytes a path can be, and the answer in one number.
+#![tactic(auto)]
+
 ghost use Rattle.std.specs.Prelude.{◌≡◌};
 ghost use Rattle.limits.specs.Refusal.{path, unless};
 ghost use Rattle.checks.specs.Answer.{answer_of};

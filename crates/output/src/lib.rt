@@ -3,6 +3,8 @@
 // The way of the data: the top band is put before anything is written, and so shows whether anything is
 // refused; the header goes out, and then each band, the top one first. What is put for each is proved to be the
 // film's, and the bands one behind the other to be its rows: the loop only moves their bytes.
+#![tactic(auto)]
+
 ghost use Rattle.std.specs.Prelude.{◌≡◌, true, ◌+◌, ◌≤◌};
 ghost use Rattle.bits.specs.Bits.{packed_length};
 ghost use Rattle.limits.specs.declared.Verdict.TheVariants.{Passed};

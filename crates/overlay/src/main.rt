@@ -3,6 +3,8 @@
 //
 // Nothing is decided here: the program moves bytes from the files to the calls of `compare`, and
 // from them to standard output, as the definition `run` says.
+#![tactic(auto)]
+
 use compare::{Ends, Refusal, Sizes};
 use files::read_at;
 use libc::STDERR_FILENO;

@@ -2,6 +2,8 @@
 //
 // The way of the data: the checks in document 01's order, and the segments' columns in the row, cut
 // to the raster and laid over the bytes (all in crates of their own); draw leads through these.
+#![tactic(auto)]
+
 ghost use Rattle.std.specs.Prelude.{◌≡◌};
 ghost use Rattle.plane.specs.Point.{corners};
 ghost use Rattle.pen.specs.Answer.{pen_corners};

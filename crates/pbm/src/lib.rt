@@ -1,4 +1,6 @@
 // The raw PBM form of document 01: the header that every film starts with, put and read.
+#![tactic(auto)]
+
 ghost use Rattle.std.specs.Prelude.{◌≡◌, ◌+◌, ◌≤◌, length};
 ghost use Rattle.text.specs.Put.{started};
 ghost use Rattle.pbm.specs.Pbm.{headed, header_put, data_length};

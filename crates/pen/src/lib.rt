@@ -3,6 +3,8 @@
 // The way of the data: a setting is checked (crate setting), the corners of its lower right quarter
 // are cut one after the other (crate cutting), and the quarter is mirrored into the whole polygon
 // (polygon). What each function promises is cited from specs/.
+#![tactic(auto)]
+
 ghost use Rattle.std.specs.Prelude.{◌≡◌};
 ghost use Rattle.pen.specs.Answer.{built};
 

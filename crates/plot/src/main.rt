@@ -12,6 +12,8 @@
 //
 // The way of the data: the words are read (words), then the file in chunks (intake, with the crate marks),
 // whose strokes are kept in lent lists; and of these the film is drawn band by band (the crate output).
+#![tactic(auto)]
+
 ghost use Rattle.std.specs.Prelude.{◌≡◌, ◌≤◌, true, length, take};
 ghost use Rattle.limits.specs.declared.Verdict.TheVariants.{Passed};
 ghost use Rattle.drawing.specs.Strokes.{drawing_of};

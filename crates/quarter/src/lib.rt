@@ -1,6 +1,8 @@
 // The lower right quarter of a setting's pen: document 01, "Building the pen", as definitions
 // (specs/) and theorems on them (proofs/). No function stands here: the crate cutting computes what
 // specs/Answer.antt defines.
+#![tactic(auto)]
+
 use limits::QUARTER_MAX;
 
 // An edge of the quarter with direction (u, v) on v*x - u*y = c. Its retained point is l1

@@ -1,5 +1,7 @@
 // What a path reaches: how low its points lie, and how high. A stroke lies between these heights,
 // with half the pen's height to each.
+#![tactic(auto)]
+
 ghost use Rattle.std.specs.Prelude.{◌≡◌};
 ghost use Rattle.reach.specs.Reach.{least_y, greatest_y};
 

@@ -3,6 +3,8 @@
 //
 // A layer over the plain answer: the runs are drawn into a list of numbers, left and right
 // alternating, and written out of it as records. Nothing is checked or drawn here.
+#![tactic(auto)]
+
 ghost use Rattle.std.specs.Prelude.{◌≡◌, ◌*◌, ◌≤◌, length, take};
 ghost use Rattle.limits.specs.Sizes.{entries_max};
 ghost use Rattle.row.specs.Calls.{row_call};

@@ -2,6 +2,8 @@
 //
 // The way of the data: the checks in document 01's order, the segments' columns in the row, cut to
 // the raster (both in crates of their own), and the list of runs (runs); draw leads through these.
+#![tactic(auto)]
+
 ghost use Rattle.std.specs.Prelude.{◌≡◌};
 ghost use Rattle.plane.specs.Point.{corners};
 ghost use Rattle.pen.specs.Answer.{pen_corners};

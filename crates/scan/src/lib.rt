@@ -1,5 +1,7 @@
 // What may be read next: the commands of a Gerber file (document 02, W4), byte by byte. A mode says
 // what has been read of a command; `next` is the one table of what each byte makes of it.
+#![tactic(auto)]
+
 ghost use Rattle.std.specs.Prelude.{◌≡◌};
 ghost use Rattle.scan.specs.Scanner.{begun, x_of, y_of, start_of, counted, stepped, is_stop, is_ended, is_ended_gap, is_ended_whole, scanned_from};
 

@@ -1,4 +1,6 @@
 // The segments of a path by its entries: how many there are, and where each of them ends.
+#![tactic(auto)]
+
 ghost use Rattle.std.specs.Prelude.{◌≡◌, ◌<◌, length};
 ghost use Rattle.stroke.specs.Sweep.{segments, path_points};
 ghost use Rattle.segments.specs.Ends.{EndsAt};

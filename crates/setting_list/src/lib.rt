@@ -1,6 +1,8 @@
 // The settings of a drawing, three numbers each: the first is that of aperture 10. Drawing makes no
 // table of them: a setting is looked up where it is drawn with. `table` makes one for the reader of a
 // file, which asks whether an aperture is defined.
+#![tactic(auto)]
+
 ghost use Rattle.std.specs.Prelude.{◌≡◌, ◌+◌, ◌*◌, ◌<◌, ◌^◌, get_or};
 ghost use Rattle.setting_list.specs.Settings.{setting_count, settings_verdict, setting_verdict, table_of, held_count, is_one_of};
 

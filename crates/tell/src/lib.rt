@@ -1,5 +1,7 @@
 // What a program tells: its file on standard output, or on standard error why there is none. A
 // program has no exit status, so whoever runs it looks at what was written.
+#![tactic(auto)]
+
 ghost use Rattle.std.specs.Prelude.{◌≡◌, true, ◌≤◌, length};
 
 use checks::Answer;

@@ -1,4 +1,6 @@
 // Which sides of a sweep are kept: what happens where a pixel's centre lies exactly on a side.
+#![tactic(auto)]
+
 ghost use Rattle.std.specs.Prelude.{◌≡◌, pos};
 ghost use Rattle.ties.specs.Kept.{kept};
 ghost use Rattle.ties.specs.Below.{below};

@@ -1,4 +1,6 @@
 // Points gathered into strokes in a lent path, one after another: what the readers of strokes share.
+#![tactic(auto)]
+
 ghost use Rattle.std.specs.Prelude.{◌≡◌, true, ◌+◌, ◌-◌, ◌<◌, length};
 ghost use Rattle.trace.specs.Trace.{nowhere, is_open, adds, is_longer, is_inside, is_fit, line_verdict, move_verdict, put2, lined, ended, moved};
 

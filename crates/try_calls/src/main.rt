@@ -12,6 +12,8 @@
 //
 // Where the stream breaks off, a command is none of these or an answer cannot be written, the tool
 // ends, and tells it on standard error.
+#![tactic(auto)]
+
 mod command;
 mod draw;
 mod lent;

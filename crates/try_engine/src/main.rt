@@ -13,6 +13,8 @@
 //
 // Where the stream breaks off, a request is too long for the tool or an answer cannot be written, the
 // tool ends, and tells it on standard error.
+#![tactic(auto)]
+
 mod drive;
 mod output;
 mod request;

@@ -4,6 +4,8 @@
 // each; A's x and y and B's x and y of four bytes each, in two's complement; and the row, of eight.
 // An incomplete record at the end is ignored. To each record standard output gets the byte 0 for
 // nothing, or the byte 1 and the first and the last column, of eight bytes each.
+#![tactic(auto)]
+
 mod answer;
 
 use extent::Extent;

@@ -13,6 +13,8 @@
 //
 // What is no answer is told on standard error: words of another form, a read or a write that failed, and
 // answers that no reader gives, as a refusal that the next call does not repeat.
+#![tactic(auto)]
+
 mod output;
 mod session;
 mod words;

@@ -4,6 +4,8 @@
 // incomplete setting at the end is ignored. To each setting standard output gets an answer: one
 // byte for the refusal, one for the number of corners, then two bytes to a corner, its x and its y
 // in half pixels, each in two's complement.
+#![tactic(auto)]
+
 mod answer;
 
 use libc::{STDIN_FILENO, STDOUT_FILENO};

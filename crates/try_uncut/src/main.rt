@@ -11,6 +11,8 @@
 //
 // Where the stream breaks off or cannot be read, a request is too long for the tool or an answer
 // cannot be written, the tool ends, and tells it on standard error.
+#![tactic(auto)]
+
 mod output;
 mod request;
 

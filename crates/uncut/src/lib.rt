@@ -3,6 +3,8 @@
 //
 // It is asked as the engine's start is, without a raster, and answered by the extent, which the row
 // answer cuts to its raster.
+#![tactic(auto)]
+
 ghost use Rattle.std.specs.Prelude.{◌≡◌, ◌<◌, length};
 ghost use Rattle.limits.specs.Sizes.{raster_max, Drawable};
 ghost use Rattle.pen.specs.Answer.{pen_corners};

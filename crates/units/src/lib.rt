@@ -1,4 +1,6 @@
 // From nanometres to units (document 02, W4).
+#![tactic(auto)]
+
 ghost use Rattle.std.specs.Prelude.{◌≡◌};
 ghost use Rattle.units.specs.Units.{is_unit, is_nine, in_units};
 
