@@ -16,8 +16,7 @@ use limits::Verdict;
 use setting::Checked;
 
 // The black runs of a row, four bytes each: left and right column, lowest byte first.
-#[unsafe(no_mangle)]
-pub extern "C" fn zimarolfo_row(
+pub fn zimarolfo_row(
     w: u64,
     p: u64,
     q: u64,
@@ -43,8 +42,7 @@ pub extern "C" fn zimarolfo_row(
 }
 
 // The same row as packed bits.
-#[unsafe(no_mangle)]
-pub extern "C" fn zimarolfo_packed_row(
+pub fn zimarolfo_packed_row(
     w: u64,
     p: u64,
     q: u64,

@@ -13,8 +13,7 @@ use crate::answer::Call;
 
 // Lays the stroke over n_rows rows of a raster, from row first_row on. The top one of them stands
 // first in the bytes, and each `stride` bytes after the one above it.
-#[unsafe(no_mangle)]
-pub extern "C" fn zimarolfo_band(
+pub fn zimarolfo_band(
     w: u64,
     p: u64,
     q: u64,
