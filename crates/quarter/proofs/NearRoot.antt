@@ -2,7 +2,7 @@
 use Prim.Native.Nat.{ℕ, zero, suc, ◌+◌, ◌*◌, ◌-◌, ◌^◌, ◌≤◌, ◌<◌}
 use mathlib.Core.Path.{◌≡◌, subst}
 use mathlib.Core.Bool.{Bool, true, false, not}
-use native.Mathlib.Nat.{mul_add, mul_assoc, mul_left_comm, mul-le-mul, mul-le-mul_left, one-le-mul, pow-succ', le_antisymm}
+use native.Mathlib.Nat.{mul-add, mul_assoc, mul_left_comm, mul-le-mul, mul-le-mul_left, one-le-mul, pow-succ', le_antisymm}
 use native.Mathlib.Numerals.{add-one}
 use native.Mathlib.Omega.{arith}
 use lib.Dec.{T, leb, leb→le, nleb→lt}
@@ -48,7 +48,7 @@ module _ (σ : Setting) (t : Taken σ) (u v : ℕ) where
       let h3 : (σ.w * σ.p) * (σ.w * σ.p) * (v * v) ≤ (262144 * q2) * 4096 = mul-le-mul (omega arith) hv2 in
       let h4 : q2 * (u * u) ≤ q2 * 4096 = mul-le-mul_left q2 hu2 in
       let h5 : σ.w * σ.w * (q2 * (u * u)) ≤ 262144 * (q2 * 4096) = mul-le-mul h2 h4 in
-      omega (arith, mul_add (σ.w * σ.w) (σ.p * σ.p * (v * v)) (q2 * (u * u)), one-le-mul t.q_low t.q_low)
+      omega (arith, mul-add (σ.w * σ.w) (σ.p * σ.p * (v * v)) (q2 * (u * u)), one-le-mul t.q_low t.q_low)
 
   -- 16² q² ≤ w² q² u²
   scaled_low : 1 ≤ u → lower σ 1 ≤ σ.w * σ.w * norm σ u v
@@ -57,7 +57,7 @@ module _ (σ : Setting) (t : Taken σ) (u v : ℕ) where
       let q2 : ℕ = σ.q * σ.q in
       let h1 : q2 * 1 ≤ q2 * (u * u) = mul-le-mul_left q2 (one-le-mul hu hu) in
       let h2 : 256 * (q2 * 1) ≤ σ.w * σ.w * (q2 * (u * u)) = mul-le-mul (square 16 σ.w t.w_low) h1 in
-      omega (arith, mul_add (σ.w * σ.w) (σ.p * σ.p * (v * v)) (q2 * (u * u)))
+      omega (arith, mul-add (σ.w * σ.w) (σ.p * σ.p * (v * v)) (q2 * (u * u)))
 
   lower_zero : (g : ℕ) → lower σ 0 ≤ g
   unfolding lower

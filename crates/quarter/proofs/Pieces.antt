@@ -3,7 +3,7 @@
 use Prim.Native.Nat.{ℕ, suc, ◌+◌, ◌*◌, ◌-◌, ◌≤◌, ◌<◌}
 use mathlib.Core.Path.{◌≡◌, ap, ◌∙◌, subst}
 use mathlib.Core.List.{List, ◌∷◌}
-use native.Mathlib.Nat.{mul_add, add_mul, mul_comm, mul-one, mul-zero, zero-mul}
+use native.Mathlib.Nat.{mul-add, add-mul, mul_comm, mul-one, mul-zero, zero-mul}
 use native.Mathlib.Omega.{arith}
 use Rattle.quarter.specs.declared.Edge.{Edge}
 use Rattle.quarter.specs.Cutting.{size, cut_edge, short_l, short_r}
@@ -12,7 +12,7 @@ use Rattle.quarter.proofs.Slope.{slope_trans, slide_on, slide_back, cross_on, cr
 
 -- a length in two parts
 split : (l s m n : ℕ) → l ≡ s + m → l * n ≡ s * n + m * n
-split l s m n e = ap (λ (k : ℕ). k * n) e ∙ add_mul s m n
+split l s m n e = ap (λ (k : ℕ). k * n) e ∙ add-mul s m n
 
 -- s of R's directions are cut off its start
 pub right_shortened : {D pu pv x y : ℕ} {R : Edge} {rest : List Edge} (s qu qv : ℕ) → s ≤ R.l1 → (s ≡ size R → ⊥) →
@@ -74,9 +74,9 @@ left_replaced {pu} {pv} L R s p h e q up t r =
       up = omega arith;
       level = rw e1 (zero-mul (L.v + R.v));
       long = r.long;
-      turn = omega (arith, mul_add pv L.u R.u, mul_add pu L.v R.v);
-      across = omega (arith, r.across, mul_add L.l2 L.u R.u);
-      down = omega (arith, r.down, mul_add L.l2 L.v R.v);
+      turn = omega (arith, mul-add pv L.u R.u, mul-add pu L.v R.v);
+      across = omega (arith, r.across, mul-add L.l2 L.u R.u);
+      down = omega (arith, r.down, mul-add L.l2 L.v R.v);
     }
 
 -- s is all of R, so R is no upright edge, and what follows it starts where the cut ends
@@ -98,8 +98,8 @@ cut_back Lu Lv Ru Rv s x y cl cr d h e f =
       arith,
       slide_back Lu Lv s x y cl h e,
       cross_back Lu Lv Ru Rv s x y cr d h f,
-      add_mul Lv Rv (x - s * Lu),
-      add_mul Lu Ru (y + s * Lv),
+      add-mul Lv Rv (x - s * Lu),
+      add-mul Lu Ru (y + s * Lv),
     )
 
 pub new_on_line : (Lu Lv Ru Rv s x y cl cr : ℕ) → Lu * Rv ≡ suc (Lv * Ru) → s * Rv ≤ y → cl ≡ Lv * x + Lu * y → cr ≡ Rv * x + Ru * y →
@@ -109,8 +109,8 @@ new_on_line Lu Lv Ru Rv s x y cl cr d h e f =
       arith,
       slide_on Ru Rv s x y cr h f,
       cross_on Lu Lv Ru Rv s x y cl d h e,
-      add_mul Lv Rv (x + s * Ru),
-      add_mul Lu Ru (y - s * Rv),
+      add-mul Lv Rv (x + s * Ru),
+      add-mul Lu Ru (y - s * Rv),
     )
 
 -- the new edge N = cut_edge L R s l1 l2 between what is left of L and what follows at its end
@@ -121,15 +121,15 @@ pub new_between : {D x y : ℕ} (L R : Edge) {rest : List Edge} (s l1 l2 : ℕ) 
     After D L.u L.v (x - s * L.u) (y + s * L.v) (cut_edge L R s l1 l2 ∷ rest)
 new_between {D} {x} {y} L R {rest} s l1 l2 cl cr one e h fx fy hu hv t k =
     let m : ℕ = l1 + l2 in
-    let eu : m * (L.u + R.u) ≡ s * L.u + s * R.u = ap (λ (n : ℕ). n * (L.u + R.u)) e ∙ mul_add s L.u R.u in
-    let ev : m * (L.v + R.v) ≡ s * L.v + s * R.v = ap (λ (n : ℕ). n * (L.v + R.v)) e ∙ mul_add s L.v R.v in
+    let eu : m * (L.u + R.u) ≡ s * L.u + s * R.u = ap (λ (n : ℕ). n * (L.u + R.u)) e ∙ mul-add s L.u R.u in
+    let ev : m * (L.v + R.v) ≡ s * L.v + s * R.v = ap (λ (n : ℕ). n * (L.v + R.v)) e ∙ mul-add s L.v R.v in
     let ex : x + s * R.u ≡ x - s * L.u + m * (L.u + R.u) = omega arith in
     let c : L.v * L.u ≡ L.u * L.v = mul_comm L.v L.u in
     let i : Inner L.u L.v (x - s * L.u) (y + s * L.v) (y - s * R.v) (cut_edge L R s l1 l2) = record {
       right = omega arith;
       up = omega arith;
       long = omega arith;
-      turn = omega (arith, mul_add L.v L.u R.u, mul_add L.u L.v R.v);
+      turn = omega (arith, mul-add L.v L.u R.u, mul-add L.u L.v R.v);
       down = omega arith;
       line = cut_back L.u L.v R.u R.v s x y L.c R.c one fx cl cr;
     } in
@@ -139,4 +139,4 @@ new_between {D} {x} {y} L R {rest} s l1 l2 cl cr one e h fx fy hu hv t k =
 pub new_flatter : (L R : Edge) → L.v * R.u < L.u * R.v → (L.v + R.v) * R.u < (L.u + R.u) * R.v
 new_flatter L R t =
     let c : R.v * R.u ≡ R.u * R.v = mul_comm R.v R.u in
-    omega (arith, add_mul L.v R.v R.u, add_mul L.u R.u R.v)
+    omega (arith, add-mul L.v R.v R.u, add-mul L.u R.u R.v)

@@ -22,6 +22,7 @@ reaches (stop e) = omega arith
 reaches (link l u v r k) = omega (arith, r.across, reaches k)
 
 pub x_range : {D k pu pv a b : ℕ} {cs : List Corner} → Chain D k pu pv a b cs → (C : Corner) → C ∈ cs → (a ≤ C.x) × (C.x ≤ D)
+x_range {D = D} (stop {pu = pu} {pv = pv} {a = a} {b = b} _) C m = elim m [ ]
 x_range (link l u v {c = c} r k) C (Memᴰ.head e) =
     let ex : C.x ≡ c.x = ap (λ (P : Corner). P.x) e in
     (omega (arith, r.across), omega (arith, reaches k))
@@ -30,6 +31,7 @@ x_range (link l u v r k) C (Memᴰ.tail m) =
     (omega (arith, r.across, i.0), i.1)
 
 pub y_range : {D k pu pv a b : ℕ} {cs : List Corner} → Chain D k pu pv a b cs → (C : Corner) → C ∈ cs → C.y ≤ b
+y_range {D = D} (stop {pu = pu} {pv = pv} {a = a} {b = b} _) C m = elim m [ ]
 y_range (link l u v {c = c} r k) C (Memᴰ.head e) =
     let ey : C.y ≡ c.y = ap (λ (P : Corner). P.y) e in
     omega (arith, r.down)

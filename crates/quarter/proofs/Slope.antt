@@ -2,7 +2,7 @@
 -- A direction (u, v) goes u to the right and v up; (a, b) is flatter than (c, d) where b * c < a * d.
 use Prim.Native.Nat.{ℕ, suc, ◌+◌, ◌*◌, ◌-◌, ◌≤◌, ◌<◌}
 use mathlib.Core.Path.{◌≡◌, ap, ◌∙◌}
-use native.Mathlib.Nat.{mul-suc, mul_add, mul_comm, mul_assoc, mul_left_comm, mul-le-mul_left, mul-le-mul_right, mul-lt-mul_of_pos_left, lt_of_mul-lt-mul_left, le_of_mul-le-mul_left}
+use native.Mathlib.Nat.{mul-suc, mul-add, mul_comm, mul_assoc, mul_left_comm, mul-le-mul_left, mul-le-mul_right, mul-lt-mul_of_pos_left, lt_of_mul-lt-mul_left, le_of_mul-le-mul_left}
 use native.Mathlib.Omega.{arith}
 
 -- (a, b) is no steeper than (c, d), which is less steep than (e, f)
@@ -27,9 +27,9 @@ slope_trans_le a b c d e f pc h k =
 -- moving along an edge keeps the offset
 pub slide_on : (u v s x y c : ℕ) → s * v ≤ y → c ≡ v * x + u * y → c ≡ v * (x + s * u) + u * (y - s * v)
 slide_on u v s x y c h e =
-    let e1 : u * y ≡ u * (y - s * v) + u * (s * v) = ap (λ (z : ℕ). u * z) (omega arith) ∙ mul_add u (y - s * v) (s * v) in
+    let e1 : u * y ≡ u * (y - s * v) + u * (s * v) = ap (λ (z : ℕ). u * z) (omega arith) ∙ mul-add u (y - s * v) (s * v) in
     let e2 : v * (s * u) ≡ u * (s * v) = simp (mul_comm, mul_left_comm) in
-    omega (arith, mul_add v x (s * u))
+    omega (arith, mul-add v x (s * u))
 
 pub slide_back : (u v s x y c : ℕ) → s * u ≤ x → c ≡ v * x + u * y → c ≡ v * (x - s * u) + u * (y + s * v)
 slide_back u v s x y c h e = omega (arith, slide_on v u s y x c h (omega arith))
@@ -37,10 +37,10 @@ slide_back u v s x y c h e = omega (arith, slide_on v u s y x c h (omega arith))
 -- moving s directions along the neighbour (u, v) of (p, q), whose determinant with it is 1, takes s off the offset
 pub cross_on : (p q u v s x y c : ℕ) → p * v ≡ suc (q * u) → s * v ≤ y → c ≡ q * x + p * y → c ≡ q * (x + s * u) + p * (y - s * v) + s
 cross_on p q u v s x y c d h e =
-    let e1 : p * y ≡ p * (y - s * v) + p * (s * v) = ap (λ (z : ℕ). p * z) (omega arith) ∙ mul_add p (y - s * v) (s * v) in
+    let e1 : p * y ≡ p * (y - s * v) + p * (s * v) = ap (λ (z : ℕ). p * z) (omega arith) ∙ mul-add p (y - s * v) (s * v) in
     let e2 : p * (s * v) ≡ s * (q * u) + s = mul_left_comm p s v ∙ ap (λ (z : ℕ). s * z) d ∙ mul-suc s (q * u) in
     let e3 : q * (s * u) ≡ s * (q * u) = mul_left_comm q s u in
-    omega (arith, mul_add q x (s * u))
+    omega (arith, mul-add q x (s * u))
 
 pub cross_back : (p q u v s x y c : ℕ) → p * v ≡ suc (q * u) → s * p ≤ x → c ≡ v * x + u * y → c ≡ v * (x - s * p) + u * (y + s * q) + s
 cross_back p q u v s x y c d h e =
