@@ -9,7 +9,7 @@ use lib.Dec.{ltb, leb}
 use lib.ListN.{length, take, length-append}
 use Rattle.io.specs.Counts.{IsPrefixLen}
 use borrow.Author.Tests.{lt-ltb, le-ltb, ltb-true, ltb-false, leb-true, leb-false}
-use Rattle.io.specs.Digits.{hex_digit_ascii, last_digits_lem as digits, IsDigitCount}
+use Rattle.io.specs.Digits.{hex_digit_ascii, last_digits as digits, IsDigitCount}
 use Rattle.limits.specs.Sizes.{is_size}
 use Rattle.limits.proofs.Sizes.{size_iff}
 use Rattle.text.specs.Decimal.{digit, last_digits, decimal}
