@@ -8,7 +8,7 @@ ghost use Rattle.std.specs.Prelude.{◌≡◌, length, ◌==◌};
 ghost use Rattle.marks.specs.Marks.{first_mark, behind, past, front_of, begun, advanced, mark_of};
 
 // A byte's place in the file, from 0, with its line and its column.
-#[derive(Drop)]
+#[derive(Clone, Copy)]
 pub struct Mark {
     pub at: u64,
     pub line: u64,
@@ -16,7 +16,7 @@ pub struct Mark {
 }
 
 // command: the first byte of the last command that was begun. end: behind the last byte read.
-#[derive(Drop)]
+#[derive(Clone, Copy)]
 pub struct Marks {
     pub command: Mark,
     pub end: Mark,
