@@ -58,7 +58,7 @@ pub const IN_USE: u64 = 8;
 pub const BAD_COMMAND: u64 = 14;
 
 // What a check answers: nothing to refuse, or the refusal's number and place.
-#[derive(Drop)]
+#[derive(Clone, Copy)]
 pub enum Verdict {
     Passed,
     Refused(u64, u64),

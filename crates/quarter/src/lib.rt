@@ -7,7 +7,7 @@ use limits::QUARTER_MAX;
 
 // An edge of the quarter with direction (u, v) on v*x - u*y = c. Its retained point is l1
 // directions after its start and l2 before its end.
-#[derive(Drop)]
+#[derive(Clone, Copy)]
 pub struct Edge {
     pub u: u64,
     pub v: u64,
@@ -17,14 +17,14 @@ pub struct Edge {
 }
 
 // What is left of the interval in which the near root is sought, both ends included.
-#[derive(Drop)]
+#[derive(Clone, Copy)]
 pub struct Interval {
     pub low: u64,
     pub high: u64,
 }
 
 // The corners of the lower right quarter from the bottom, in half pixels, y upwards.
-#[derive(Drop)]
+#[derive(Clone, Copy)]
 pub struct Quarter {
     pub count: usize,
     pub x: [i8; QUARTER_MAX],
