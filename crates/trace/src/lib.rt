@@ -8,7 +8,7 @@ use limits::Verdict;
 
 // placed: (x, y) is the current point. The strokes handed out end before entry first; the entries from
 // first to filled are the open stroke's, and none is open where there are none.
-#[derive(Drop)]
+#[derive(Clone, Copy)]
 pub struct Trace {
     pub placed: bool,
     pub x: i32,
@@ -18,7 +18,7 @@ pub struct Trace {
 }
 
 // The stroke that was open: its first entry and how many entries it has, 0 where none was open.
-#[derive(Drop)]
+#[derive(Clone, Copy)]
 pub struct Ended {
     pub trace: Trace,
     pub first: usize,
