@@ -10,7 +10,7 @@ ghost use Rattle.integers.specs.Floor.{floor_div};
 ghost use Rattle.edge.specs.Edge.{nowhere, is_small, fair, near, raised, placed};
 
 // The edge meets the row at column + rest / by pixels, and each row up adds step + more / by.
-#[derive(Drop)]
+#[derive(Clone, Copy)]
 pub struct Edge {
     pub column: i64,
     pub rest: i64,
@@ -40,6 +40,7 @@ fn is_small(z: i64) -> bool
 }
 
 // Whether all numbers of an edge are.
+#[tactic(auto, unfolding(crate::specs::Edge::fair))]
 fn fair(e: Edge) -> bool
     ensures { result ≡ fair e }
 {
