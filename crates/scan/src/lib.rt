@@ -8,7 +8,7 @@ ghost use Rattle.scan.specs.Scanner.{begun, x_of, y_of, start_of, counted, stepp
 mod next;
 
 // What a whole command asks for. Nothing: the second header line, a comment, G01.
-#[derive(Drop)]
+#[derive(Clone, Copy)]
 pub enum Command {
     Nothing,
     Choose(u64),
@@ -18,7 +18,7 @@ pub enum Command {
 }
 
 // Between commands: before the first header line, before the second, after both, after M02.
-#[derive(Drop)]
+#[derive(Clone, Copy)]
 pub enum Gap {
     First,
     Second,
@@ -28,7 +28,7 @@ pub enum Gap {
 
 // Within a command, but for the digits of a number. A bool y: the axis is Y and not X. Header: so many
 // bytes of the two header lines have been read.
-#[derive(Drop)]
+#[derive(Clone, Copy)]
 pub enum Part {
     Header(usize),
     G,
@@ -51,7 +51,7 @@ pub enum Part {
 
 // What has been read. Bad: no allowed command starts so. Whole: the last byte ended this command. Number:
 // of Y and not of X, with a minus, so many digits, their value.
-#[derive(Drop)]
+#[derive(Clone, Copy)]
 pub enum Mode {
     Bad,
     Outside(Gap),
@@ -62,7 +62,7 @@ pub enum Mode {
 
 // at: how many bytes have been read. start: the place of the byte that started the command. x and y: the
 // last number of each axis.
-#[derive(Drop)]
+#[derive(Clone, Copy)]
 pub struct Scanner {
     pub mode: Mode,
     pub at: u64,
@@ -72,7 +72,7 @@ pub struct Scanner {
 }
 
 // The scanner, and the index in the chunk behind the last byte read.
-#[derive(Drop)]
+#[derive(Clone, Copy)]
 pub struct Scanned {
     pub scanner: Scanner,
     pub end: usize,
