@@ -8,7 +8,7 @@ use mathlib.Core.List.{List, [], ◌∷◌, ◌++◌}
 use lib.Dec.{ltb, eqb}
 use lib.IntN.{ℤ, pos, neg_ℤ}
 use lib.Seq.{append_snoc}
-use borrow.Author.Tests.{ltb-true, not_true}
+use borrow.Author.Tests.{ltb-true, not-true}
 use Rattle.integers.proofs.Tests.{and_both}
 use Rattle.text.specs.Ascii.{ascii}
 use Rattle.scan.specs.declared.Mode.TheVariants as mode·
@@ -38,7 +38,7 @@ no_digit : {y : Bool} (L : List ℕ → Type 0) → Behind y L → (b : ℕ) (l 
 no_digit {y} L h b l = byte L 89 b l second (λ _. byte L 68 b l (h.plot l) (λ _. never (λ w. L (b ∷ w)) l))
   where
     second : Found (only (not y) (mode·.Inside (part·.Axis true))) (λ w. L (89 ∷ w)) l
-    second = test (λ w. L (89 ∷ w)) l (mode·.Inside (part·.Axis true)) mode·.Bad (not y) (λ e. h.axis (not_true y e) l) (λ _. never (λ w. L (89 ∷ w)) l)
+    second = test (λ w. L (89 ∷ w)) l (mode·.Inside (part·.Axis true)) mode·.Bad (not y) (λ e. h.axis (not-true y e) l) (λ _. never (λ w. L (89 ∷ w)) l)
 
 module _ (y m : Bool) where
   -- a digit more, where there are fewer than nine
