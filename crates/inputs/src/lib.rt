@@ -1,11 +1,13 @@
 // What a program is given: numbers among the words of its command line, and standard input.
 #![tactic(auto)]
 
-ghost use Rattle.std.specs.Prelude.{◌≡◌, ◌+◌, ◌≤◌, length};
+ghost use Rattle.std.specs.Prelude.{◌≡◌, ◌+◌, ◌≤◌, length, IfOk};
 ghost use Rattle.io.specs.Counts.{IsPrefixLen};
 ghost use Rattle.inputs.specs.Number.{lengthened, grown, number_of};
 
-use libc::STDIN_FILENO;
+use std::env::{Env, FillError};
+use std::io;
+use std::io::{Read, Stderr, Stdin};
 
 // What has been read of a number: no digit yet, so much; or something else, or a number that is too large.
 #[derive(Drop)]
@@ -63,46 +65,50 @@ pub fn read_number(text: &[u8]) -> Number
     number
 }
 
-// One read into buf from index `done` on.
-fn read_some(buf: &mut [u8], done: usize) -> Got
+// One read into buf from index `done` on, and how many bytes came.
+fn read_some(mut input: Stdin, buf: &mut [u8], done: usize) -> io::Result<usize>
     requires { done ≤ length buf.old }
-    ensures { done + result.count ≤ length buf.old }
+    ensures { IfOk result (λ n. done + n ≤ length buf.old) }
 {
-    let got = libc::read(STDIN_FILENO, &mut buf[done..]);
-    if got < 0 {
-        return Got {
-            count: 0,
-            is_failed: true,
-        };
-    }
-    Got {
-        count: io::count(got, &buf[done..]),
-        is_failed: false,
-    }
+    input.read(&mut buf[done..])
 }
 
 // Fills buf from standard input, as far as that has bytes. A read that fails is told on standard error,
 // behind the given text, and never passes for the end.
-pub fn fill(buf: &mut [u8], told: &[u8]) -> Got
+pub fn fill(input: Stdin, errors: Stderr, buf: &mut [u8], told: &[u8]) -> Got
     ensures { IsPrefixLen result.count buf.new }
 {
     let mut done = 0;
     while done < buf.len() {
-        let got = read_some(buf, done);
-        if got.is_failed {
-            os::fail(told);
-            return Got {
-                count: 0,
-                is_failed: true,
-            };
+        match read_some(input, buf, done) {
+            Err(e) => {
+                tell::fail(errors, told, e);
+                return Got {
+                    count: 0,
+                    is_failed: true,
+                };
+            }
+            Ok(0) => break,
+            Ok(n) => done += n,
         }
-        if got.count == 0 {
-            break;
-        }
-        done += got.count;
     }
     Got {
         count: done,
         is_failed: false,
     }
+}
+
+// Whether the program was started with a word of that number, its own name being word 0.
+pub fn is_given(rt: &impl Env, i: usize) -> bool {
+    !matches!(rt.arg(i, &mut []), Err(FillError::NotPresent))
+}
+
+// How many words the program was started with, its own name among them.
+pub fn word_count(rt: &impl Env) -> usize {
+    for i in 0..usize::MAX {
+        if !is_given(rt, i) {
+            return i;
+        }
+    }
+    usize::MAX
 }
