@@ -6,9 +6,7 @@ use mathlib.Core.List.{List, [], ◌∷◌}
 use lib.ListN.{length, get_or, drop, length-drop}
 use lib.Seq.{drop-cons}
 use lib.IntN.{ℤ, pos}
-use mir.Syntax.{w64}
-use mir.Val.{to_z}
-use Rattle.integers.proofs.Machine.{Is, along}
+use Rattle.integers.specs.Bound.{Abs}
 use Rattle.reach.specs.Reach.{of_ys}
 
 -- ---- what holds of the y's, for a way to take two together
@@ -52,21 +50,15 @@ module _ {f : ℤ → ℤ → ℤ} {z : ℤ} (t : Together f z) where
   all_taken_up (x ∷ y ∷ l) = sym (t.assoc z y (of_ys f z l)) ∙ ap (λ (c : ℤ). f c (of_ys f z l)) (t.comm z y) ∙ t.assoc y z (of_ys f z l) ∙ ap (f y) (all_taken_up l)
 
   -- y is what the y's before the entry i, which is a y, make
-  pub record Passed (path : List ℤ) (y i : ℕ) : Type 0 where
+  pub record Passed (path : List ℤ) (y : ℤ) (i : ℕ) : Type 0 where
     pub odd : i % 2 ≡ 1
     pub within : i ≤ length path + 1
-    pub number : Is w64 (to_z w64 y) y (2 ^ 31)
-    pub rest : f (to_z w64 y) (of_ys f z (drop (i - 1) path)) ≡ of_ys f z path
-    pub up : f (to_z w64 y) z ≡ to_z w64 y
+    pub number : Abs y (2 ^ 31)
+    pub rest : f y (of_ys f z (drop (i - 1) path)) ≡ of_ys f z path
+    pub up : f y z ≡ y
 
-  pub passed_none : (path : List ℤ) {y : ℕ} → Is w64 z y (2 ^ 31) → Passed path y 1
-  passed_none path p = record {
-    odd = omega arith;
-    within = omega arith;
-    number = along (sym p.reads) p;
-    rest = ap (λ (y : ℤ). f y (of_ys f z path)) p.reads ∙ all_taken_up path;
-    up = rw p.reads t.twice;
-  }
+  pub passed_none : (path : List ℤ) → Abs z (2 ^ 31) → Passed path z 1
+  passed_none path p = record { odd = omega arith; within = omega arith; number = p; rest = all_taken_up path; up = t.twice }
 
   -- one more
   next_two : (path : List ℤ) (i : ℕ) → i % 2 ≡ 1 → i < length path → of_ys f z (drop (i - 1) path) ≡ f (get_or path i (pos 0)) (of_ys f z (drop (i + 2 - 1) path))
@@ -79,13 +71,13 @@ module _ {f : ℤ → ℤ → ℤ} {z : ℤ} (t : Together f z) where
       in
       ap (of_ys f z) d
 
-  pub passed_next : {path : List ℤ} {y i m : ℕ} → Passed path y i → i < length path → Is w64 (f (to_z w64 y) (get_or path i (pos 0))) m (2 ^ 31) → Passed path m (i + 2)
-  passed_next {path} {y} {i} {m} d h p = record {
+  pub passed_next : {path : List ℤ} {y : ℤ} {i : ℕ} {m : ℤ} → Passed path y i → i < length path → m ≡ f y (get_or path i (pos 0)) → Abs m (2 ^ 31) → Passed path m (i + 2)
+  passed_next {path} {y} {i} {m} d h e p = record {
     odd = omega (arith, d.odd);
     within = omega arith;
-    number = along (sym p.reads) p;
-    rest = rw p.reads (t.assoc (to_z w64 y) (get_or path i (pos 0)) (of_ys f z (drop (i + 2 - 1) path)) ∙ ap (f (to_z w64 y)) (sym (next_two path i d.odd h)) ∙ d.rest);
-    up = rw p.reads (taken_up (to_z w64 y) (get_or path i (pos 0)) d.up);
+    number = p;
+    rest = rw e (t.assoc y (get_or path i (pos 0)) (of_ys f z (drop (i + 2 - 1) path)) ∙ ap (f y) (sym (next_two path i d.odd h)) ∙ d.rest);
+    up = rw e (taken_up y (get_or path i (pos 0)) d.up);
   }
 
   -- all
@@ -95,5 +87,5 @@ module _ {f : ℤ → ℤ → ℤ} {z : ℤ} (t : Together f z) where
   at_end (x ∷ []) h = refl
   at_end (x ∷ y ∷ l) h = absurd (omega arith)
 
-  pub passed_all : {path : List ℤ} {y i : ℕ} → Passed path y i → length path ≤ i → to_z w64 y ≡ of_ys f z path
-  passed_all {path} {y} {i} d h = sym d.up ∙ ap (f (to_z w64 y)) (sym (at_end (drop (i - 1) path) (omega (arith, d.odd, length-drop (i - 1) path)))) ∙ d.rest
+  pub passed_all : {path : List ℤ} {y : ℤ} {i : ℕ} → Passed path y i → length path ≤ i → y ≡ of_ys f z path
+  passed_all {path} {y} {i} d h = sym d.up ∙ ap (f y) (sym (at_end (drop (i - 1) path) (omega (arith, d.odd, length-drop (i - 1) path)))) ∙ d.rest
