@@ -3,3 +3,4 @@
 --   Stored   the quarter's arrays with a corner more
 pub mod Stack
 pub mod Stored
+pub mod Rounds

@@ -21,7 +21,7 @@ mod size;
 // that came after the corner before: `more` edges (0 to 2), of which the second is `last` and the
 // first, where there are two, `new`. The stack of all edges to come is not in here, so that no step
 // copies it.
-#[derive(Drop)]
+#[derive(Clone, Copy)]
 pub struct Work {
     pub x: u64,
     pub y: u64,

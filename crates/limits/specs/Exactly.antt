@@ -3,7 +3,7 @@
 --     (6 when NoPen else 2 when BadPath else .. else done) k
 -- is the claim that the answer is k. The numbers, and the sizes in what applies, are written out as the document has them, and are not taken from
 -- Sizes and Refusal: a wrong one there is refused here.
-use Rattle.std.specs.Prelude.{ℕ, ◌%◌, ◌<◌, ◌≤◌, ◌≡◌, ◌⊎◌, List, length, get_or, ℤ, pos, neg_ℤ}
+use Rattle.std.specs.Prelude.{ℕ, ◌%◌, ◌<◌, ◌≡◌, ◌⊎◌, List, length, get_or, ℤ, pos, neg_ℤ}
 use Rattle.integers.specs.Orders.{◌≺◌}
 
 -- the answer is k, where it is n if something applies, and otherwise what the rest says

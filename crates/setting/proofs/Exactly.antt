@@ -1,5 +1,5 @@
 -- The check of a setting held against its line of the table of refusals.
-use mathlib.Core.Path.{◌≡◌, refl, sym, ap, ◌∙◌}
+use mathlib.Core.Path.{◌≡◌, refl, sym, ap}
 use mathlib.Core.Logic.{◌⊎◌, inl, inr}
 use mathlib.Core.Bool.{Bool, true, false, ◌&&◌}
 use Prim.Native.Nat.{ℕ, ◌*◌}
@@ -7,8 +7,6 @@ use native.Mathlib.Omega.{arith}
 use borrow.Author.Tests.{leb-false}
 use lib.Dec.{leb}
 use Rattle.limits.specs.Sizes.{within, width_min, width_max, aspect_max}
-use Rattle.limits.specs.declared.Verdict.{Verdict}
-use Rattle.limits.proofs.Sizes.{within_iff}
 use Rattle.limits.proofs.Exactly.{Says, passes, refuses}
 use Rattle.setting.specs.declared.Setting.{Setting}
 use Rattle.setting.specs.Setting.{taken}

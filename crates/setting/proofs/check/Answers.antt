@@ -1,5 +1,5 @@
 -- `check` takes a setting exactly when it passes the test of its limits: each `return` knows one part of the test.
-use Rattle.std.proofs.Common.{◌≡◌, sym, ◌∙◌, true, false}
+use Rattle.std.proofs.Common.{◌≡◌, sym, ◌∙◌, false}
 use Rattle.integers.proofs.Tests.{and_false, false_and}
 use Rattle.setting.specs.declared.Setting.{Setting}
 use Rattle.setting.specs.Setting.{taken}
