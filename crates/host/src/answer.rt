@@ -19,7 +19,7 @@ const SHORT: usize = 64;
 const SHORT_BYTES: usize = 4 * SHORT;
 
 // What is asked for: a row of a raster for a setting, as runs or packed.
-#[derive(Drop)]
+#[derive(Clone, Copy)]
 pub struct Call {
     pub setting: Setting,
     pub columns: u64,
