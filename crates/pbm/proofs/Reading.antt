@@ -74,6 +74,13 @@ told_first at s = numbers (omega arith) refl
 pub told_last : (value i : ℕ) {l : List ℕ} → l ≡ [] → told value i l ≡ record { value = value; end = i }
 told_last value i e = ap (told value i) e ∙ numbers (omega arith) (omega arith)
 
+-- `value` has been read of the digits from `at` on, up to index i
+pub record SoFar (text : List ℕ) (at value i : ℕ) : Type 0 where
+  pub from : at ≤ i
+  pub few : i ≤ at + 5
+  pub small : value < 10 ^ (i - at)
+  pub same : size_at at text ≡ told value i (leading (at + 5 - i) (drop i text))
+
 -- a digit more counts all before it ten times
 pub told_more : (value i x : ℕ) (l : List ℕ) → told value i (x ∷ l) ≡ told (10 * value + (x - 48)) (suc i) l
 told_more value i x l =
