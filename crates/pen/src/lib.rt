@@ -14,7 +14,7 @@ use setting::Checked;
 mod polygon;
 
 // The corners of the whole polygon, counterclockwise from the bottom, in half pixels, y upwards.
-#[derive(Drop)]
+#[derive(Clone, Copy)]
 pub struct Pen {
     pub count: usize,
     pub x: [i8; PEN_MAX],
@@ -22,7 +22,7 @@ pub struct Pen {
 }
 
 // Document 01's refusal number, and the pen, which has no corners on a refusal.
-#[derive(Drop)]
+#[derive(Clone, Copy)]
 pub struct Built {
     pub refusal: u64,
     pub pen: Pen,

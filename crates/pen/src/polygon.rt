@@ -10,7 +10,7 @@ use limits::{PEN_MAX, QUARTER_MAX};
 use quarter::Quarter;
 
 // A corner in half pixels, y upwards.
-#[derive(Drop)]
+#[derive(Clone, Copy)]
 pub struct Point {
     pub x: i8,
     pub y: i8,
