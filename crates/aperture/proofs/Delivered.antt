@@ -1,18 +1,16 @@
 -- What statements about calls ask of a table is delivered by the calls that made it.
 use Prim.Native.Nat.{ℕ}
 use mathlib.Core.Path.{◌≡◌, refl, sym, ap, ◌∙◌}
-use mathlib.Core.Logic.{◌⊎◌, inl, inr}
 use mathlib.Core.Bool.{Bool, true, false}
 use lib.Dec.{eqb}
 use borrow.Author.Tests.{eqb-true, eqb-false}
-use Rattle.integers.proofs.Tests.{clash}
 use Rattle.setting.specs.declared.Setting.{Setting}
-use Rattle.setting.specs.Setting.{Taken, taken}
+use Rattle.setting.specs.Setting.{taken}
 use Rattle.setting.proofs.Limits.{taken_iff}
 use Rattle.aperture.specs.declared.Place.{Place}
 use Rattle.aperture.specs.declared.Table.{Table}
 use Rattle.aperture.specs.declared.Changed.{Changed}
-use Rattle.aperture.specs.Table.{holding, is_number, is_held, place_of, defined, removed}
+use Rattle.aperture.specs.Table.{is_number, is_held, place_of, defined, removed}
 use Rattle.aperture.specs.Reachable.{Reachable, defines, removes, Holds, DefinedGives, DefiningKeeps, RemovingKeeps, UsedHolds}
 use Rattle.aperture.proofs.Numbers.{held_parts}
 use Rattle.aperture.proofs.Answers.{not_number, not_free, not_taken, not_held}

@@ -12,27 +12,27 @@ ghost use Rattle.aperture.specs.Table.{is_number, vacant, holding, empty, place_
 use pen::Pen;
 use setting::{Checked, Setting};
 
-#[derive(Drop)]
+#[derive(Clone, Copy)]
 pub struct Place {
     pub used: bool,
     pub setting: Setting,
     pub pen: Pen,
 }
 
-#[derive(Drop)]
+#[derive(Clone, Copy)]
 pub struct Table {
     pub places: [Place; limits::PLACES],
 }
 
 // Document 01's refusal number, and the table, which is unchanged on a refusal.
-#[derive(Drop)]
+#[derive(Clone, Copy)]
 pub struct Changed {
     pub refusal: u64,
     pub table: Table,
 }
 
 // What looking a number up answers: the index of a place in use, or refusal 6.
-#[derive(Drop)]
+#[derive(Clone, Copy)]
 pub enum Looked {
     At(usize),
     Refused,
