@@ -3,11 +3,11 @@ use mathlib.Core.Path.{◌≡◌, refl, sym, ap, subst, ◌∙◌}
 use mathlib.Core.Logic.{◌⊎◌, inl, inr, ◌↔◌}
 use mathlib.Core.Bool.{Bool, true, false, ◌&&◌}
 use mathlib.Core.List.{List, [], ◌∷◌}
-use Prim.Native.Nat.{ℕ, zero, suc, ◌+◌, ◌%◌, ◌≤◌, ◌<◌}
+use Prim.Native.Nat.{ℕ, zero, suc, ◌+◌, ◌%◌, ◌<◌}
 use native.Mathlib.Omega.{arith}
 use borrow.Author.Tests.{leb-true, leb-false, ltb-true, ltb-false, eqb-true, eqb-false}
 use lib.Dec.{leb, ltb, eqb}
-use lib.ListN.{length, get_or}
+use lib.ListN.{length}
 use lib.IntN.{ℤ, pos, neg_ℤ}
 use lib.Signed.{le_z, clash_ℤ}
 use Rattle.integers.proofs.Tests.{and_both, le_true, le_false}
@@ -20,8 +20,7 @@ use Rattle.limits.specs.Exactly.{◌when◌else◌, done, BadPath, BadEntry, Bad
 use Rattle.limits.proofs.Sizes.{size_iff}
 use Rattle.limits.proofs.Verdicts.{not_passed}
 use Rattle.limits.proofs.Exactly.{number_of, place_of, Says, passes, refuses, unless_says, says_last, says_first}
-use Rattle.checks.specs.declared.Answer.{Answer}
-use Rattle.checks.specs.Checks.{path_verdict, raster_verdict, row_verdict, coordinate_from, coordinate_verdict, verdict, call_verdict, room_verdict}
+use Rattle.checks.specs.Checks.{path_verdict, raster_verdict, row_verdict, coordinate_from, coordinate_verdict, call_verdict, room_verdict}
 use Rattle.checks.specs.Answer.{Offer, settled, given}
 use Rattle.checks.specs.Refuses.{Refuses}
 

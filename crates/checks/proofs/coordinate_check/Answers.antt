@@ -1,5 +1,5 @@
 -- What the test says of entry i, and what the definition then is there.
-use Rattle.std.proofs.Common.{◌≡◌, ◌∙◌, sym, ap, rules, arith, add-one, length, slice_index_or, w32, pos, FitsSigned}
+use Rattle.std.proofs.Common.{◌∙◌, sym, ap, rules, add-one, slice_index_or, w32, pos, FitsSigned}
 use Rattle.std.proofs.Math.Facts.{to_z-of_z}
 use Rattle.std.proofs.Math.ListN.{drop_of_length-le}
 use Rattle.limits.specs.Sizes.{in_range}
