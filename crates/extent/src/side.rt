@@ -13,7 +13,7 @@ use integers::{max, min, wide};
 
 // The ends A and B of a segment, in sixteenths of a pixel. Their heights count from the row that is
 // asked for, which so is row 0: what room a side has in it takes no product with the row.
-#[derive(Drop)]
+#[derive(Clone, Copy)]
 pub struct Ends {
     pub ax: i64,
     pub ay: i64,
