@@ -37,6 +37,7 @@ pub fn feed_on(r: Reader, t: Table, chunk: &[u8], path: &mut [i32]) -> Fed
 }
 
 // What the scanner's last byte asks for.
+#[tactic(auto, unfolding(crate::specs::Reader::acted))]
 fn act(r: Reader, t: Table, path: &mut [i32]) -> Obeyed
     ensures { record { told = result; entries = path.new } ≡ shown (acted t (record { reader = r; path = path.old })) }
 {

@@ -12,6 +12,7 @@ use scan::Command;
 use trace::Trace;
 
 // A whole command. Its numbers are the scanner's, and so is its place.
+#[tactic(auto, unfolding(crate::specs::Reader::obeyed))]
 pub fn obey(r: Reader, t: Table, c: Command, path: &mut [i32]) -> Obeyed
     ensures { record { told = result; entries = path.new } ≡ shown (obeyed_word t (record { reader = r; path = path.old }) (word_of c r.scanner.x r.scanner.y)) }
 {

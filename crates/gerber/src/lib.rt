@@ -20,7 +20,7 @@ mod command;
 
 // What has been read. unit: how many nanometres a unit is. refusal and place: of the refusal, once there is
 // one; 0 before. aperture: the one chosen, 0 before the first choice.
-#[derive(Drop)]
+#[derive(Clone, Copy)]
 pub struct Reader {
     pub unit: u64,
     pub refusal: u64,
@@ -32,7 +32,7 @@ pub struct Reader {
 
 // Stroke: its aperture, its first entry in the path, and how many entries it has. Refused: the number, and
 // the byte's place in the file.
-#[derive(Drop)]
+#[derive(Clone, Copy)]
 pub enum Given {
     More,
     Stroke(u64, usize, usize),
@@ -41,7 +41,7 @@ pub enum Given {
 }
 
 // What a call gives. used: how many bytes of its chunk; 0 for a refusal.
-#[derive(Drop)]
+#[derive(Clone, Copy)]
 pub struct Fed {
     pub reader: Reader,
     pub given: Given,
@@ -49,13 +49,14 @@ pub struct Fed {
 }
 
 // What a command gives.
-#[derive(Drop)]
+#[derive(Clone, Copy)]
 pub struct Obeyed {
     pub reader: Reader,
     pub given: Given,
 }
 
 // Before the first byte of a file, a unit being so many nanometres.
+#[tactic(auto, unfolding(crate::specs::Reader::started))]
 pub fn start(unit: u64) -> Reader
     ensures { result ≡ started unit }
 {
@@ -74,6 +75,7 @@ pub fn start(unit: u64) -> Reader
 }
 
 // Reads a chunk, up to the end of the first stroke or to a refusal. After a refusal nothing is read.
+#[tactic(auto, unfolding(crate::specs::Reader::feeds))]
 pub fn feed(r: Reader, t: Table, chunk: &[u8], path: &mut [i32]) -> Fed
     ensures { record { fed = result; entries = path.new } ≡ feeds r t chunk.now path.old }
 {
@@ -84,6 +86,7 @@ pub fn feed(r: Reader, t: Table, chunk: &[u8], path: &mut [i32]) -> Fed
 }
 
 // The file has ended: all is well where M02 has been read and no command begun after it.
+#[tactic(auto, unfolding(crate::specs::Reader::finished))]
 pub fn finish(r: Reader) -> Fed
     ensures { result ≡ finished r }
 {
