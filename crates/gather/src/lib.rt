@@ -17,7 +17,7 @@ use gerber::{Given, Reader};
 use limits::Verdict;
 
 // count: how many strokes have been noted. lost: a stroke found no place in the lists.
-#[derive(Drop)]
+#[derive(Clone, Copy)]
 pub struct Gathering {
     pub reader: Reader,
     pub count: usize,
@@ -25,14 +25,14 @@ pub struct Gathering {
 }
 
 // What is noted of a call's answer. Stroke: its aperture, and its first entry in the path.
-#[derive(Drop)]
+#[derive(Clone, Copy)]
 enum Handed {
     Nothing,
     Stroke(u64, usize),
 }
 
 // Refused: the number, and the byte's place in the file.
-#[derive(Drop)]
+#[derive(Clone, Copy)]
 pub enum Finished {
     Done,
     Refused(u64, u64),
@@ -107,6 +107,7 @@ fn with_reader(g: Gathering, reader: Reader) -> Gathering
 
 // Puts a stroke's aperture and its first entry behind those noted before, where both lists have a place. The
 // path and the stroke's length are not needed for that: the contract holds for every path p and length n.
+#[tactic(auto, unfolding(crate::specs::Gather::noted))]
 fn note(
     g: Gathering,
     aperture: u64,
@@ -144,6 +145,7 @@ fn has_place(k: usize, apertures: usize, starts: usize) -> bool
 
 // The file has ended: all is well where the reader says so and every stroke is noted, and then the end of the
 // last stroke stands behind the starts. Where it is refused starts is unchanged.
+#[tactic(auto, unfolding(crate::specs::Gather::finishing))]
 pub fn finish(g: Gathering, starts: &mut [usize]) -> Finished
     ensures { record { answer = result; starts = starts.new } ≡ finishing g starts.old }
 {

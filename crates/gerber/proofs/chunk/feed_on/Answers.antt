@@ -1,5 +1,5 @@
 -- In every turn what is left of the chunk gives what the whole chunk gives.
-use Rattle.std.proofs.Common.{◌≡◌, ℕ, ◌<◌, List, ℤ, length, sym, ap, ◌∙◌, arith}
+use Rattle.std.proofs.Common.{◌≡◌, ℕ, List, ℤ, length, sym, ap, ◌∙◌, arith}
 use Rattle.scan.specs.declared.Scanned.{Scanned}
 use Rattle.aperture.specs.declared.Table.{Table}
 use Rattle.gerber.specs.declared.Reader.{Reader}
