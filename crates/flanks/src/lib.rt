@@ -22,7 +22,7 @@ mod turn;
 mod walk;
 
 // The lower end of a segment, and the upper one, in sixteenths of a pixel.
-#[derive(Drop)]
+#[derive(Clone, Copy)]
 pub struct Ends {
     pub lx: i32,
     pub ly: i32,
@@ -32,7 +32,7 @@ pub struct Ends {
 
 // The edge that the row meets, and the height up to which it does; the corner of the pen's side that
 // the walk has come to, and the place of the corner that the segment runs along.
-#[derive(Drop)]
+#[derive(Clone, Copy)]
 pub struct Flank {
     pub edge: Edge,
     pub top: i64,
@@ -41,7 +41,7 @@ pub struct Flank {
 }
 
 // The sweep reaches from the height `low` to the height `high`.
-#[derive(Drop)]
+#[derive(Clone, Copy)]
 pub struct Flanks {
     pub ends: Ends,
     pub low: i64,
@@ -51,7 +51,7 @@ pub struct Flanks {
 }
 
 // The columns of a row from `first` on and before `end`; none where `end` is not greater.
-#[derive(Drop)]
+#[derive(Clone, Copy)]
 pub struct Cut {
     pub first: u16,
     pub end: u16,

@@ -72,7 +72,7 @@ fn turn<'a>(xs: &'a [i8], ys: &'a [i8], u: i64, v: i64, i: usize) -> i64
 }
 
 // The first place that lies furthest to the left of a direction, and the first furthest to its right.
-#[derive(Drop)]
+#[derive(Clone, Copy)]
 pub struct Furthest {
     pub left: usize,
     pub right: usize,
