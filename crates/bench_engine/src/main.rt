@@ -8,12 +8,11 @@
 
 use aperture::Table;
 use checks::Answer;
-use libc::{STDIN_FILENO, STDOUT_FILENO};
 use std::num::wrapping_add_u64;
 
 const NUMBER: u64 = 10;
 
-#[derive(Drop)]
+#[derive(Clone, Copy)]
 struct Film {
     columns: u64,
     rows: u64,
@@ -106,14 +105,24 @@ fn work(head: &[u8], path: &[i32], list: &mut [u16]) -> u64 {
     again(way, times, table, path, film, list)
 }
 
-fn main() {
+fn main(rt: HostRuntime) {
     let mut head = [0u8; 72];
     let mut bytes = [0u8; 16];
     let mut path = [0i32; 4];
     let mut list = [0u16; 2];
-    io::read_full(STDIN_FILENO, &mut head);
-    io::read_full(STDIN_FILENO, &mut bytes);
+    inputs::fill(
+        rt.stdin(),
+        rt.stderr(),
+        &mut head,
+        b"bench_engine: standard input",
+    );
+    inputs::fill(
+        rt.stdin(),
+        rt.stderr(),
+        &mut bytes,
+        b"bench_engine: standard input",
+    );
     wire::decode(&bytes, &mut path);
-    io::print_decimal(STDOUT_FILENO, work(&head, &path, &mut list));
-    io::write_all(STDOUT_FILENO, b"\n");
+    let black = work(&head, &path, &mut list);
+    let _ = println!(rt; "{black}");
 }

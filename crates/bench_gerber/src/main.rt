@@ -9,10 +9,13 @@ ghost use Rattle.std.specs.Prelude.{◌+◌, ◌≤◌, length};
 
 use aperture::Table;
 use gerber::{Given, Reader};
-use libc::{STDIN_FILENO, STDOUT_FILENO};
+use std::io::{Print, Stdout};
 use trace::Trace;
 
 const ROOM: usize = 65536;
+
+// How many bytes of the file are read at a time, at most.
+const CHUNK: usize = 65536;
 
 // going: the last call refused nothing.
 #[derive(Drop)]
@@ -111,9 +114,15 @@ fn feed(t: Table, turn: Turn, chunk: &[u8], path: &mut [i32]) -> Turn {
     now
 }
 
-// The next bytes of the file; a read that fails passes for its end here.
-fn read_on(t: Table, turn: Turn, buf: &mut [u8], path: &mut [i32]) -> Turn {
-    let n = io::read_full(STDIN_FILENO, buf);
+// The next bytes of the file; behind a read that fails, which is told, no more are read.
+fn read_on(rt: HostRuntime, t: Table, turn: Turn, buf: &mut [u8], path: &mut [i32]) -> Turn {
+    let got = inputs::fill(
+        rt.stdin(),
+        rt.stderr(),
+        buf,
+        b"bench_gerber: standard input",
+    );
+    let n = got.count;
     let next = feed(t, turn, &buf[..n], path);
     let reader = next.reader;
     Turn {
@@ -125,7 +134,7 @@ fn read_on(t: Table, turn: Turn, buf: &mut [u8], path: &mut [i32]) -> Turn {
 }
 
 // A proved loop has to end, and nothing says that the input does.
-fn read_all(t: Table, buf: &mut [u8], path: &mut [i32]) -> Turn {
+fn read_all(rt: HostRuntime, t: Table, buf: &mut [u8], path: &mut [i32]) -> Turn {
     let reader = gerber::start(1000);
     let mut turns = u64::MAX;
     let mut turn = Turn {
@@ -135,7 +144,7 @@ fn read_all(t: Table, buf: &mut [u8], path: &mut [i32]) -> Turn {
         going: true,
     };
     while turns > 0 && turn.going {
-        let next = read_on(t, turn, buf, path);
+        let next = read_on(rt, t, turn, buf, path);
         turn = next;
         turns -= 1;
     }
@@ -147,39 +156,44 @@ fn with_aperture(t: Table, number: u64) -> Table {
     changed.table
 }
 
-fn put(text: &[u8]) {
-    io::write_all(STDOUT_FILENO, text);
+fn put(to: Stdout, text: &[u8]) {
+    tell::put(to, text);
 }
 
-fn tell_end(given: Given) {
+fn put_number(to: Stdout, n: u64) {
+    let _ = to.print(n);
+}
+
+fn tell_end(to: Stdout, given: Given) {
     match given {
-        Given::More => put(b"more\n"),
-        Given::Stroke(_, _, _) => put(b"a stroke\n"),
-        Given::Done => put(b"done\n"),
-        Given::Refused(number, _) => tell_refused(number),
+        Given::More => put(to, b"more\n"),
+        Given::Stroke(_, _, _) => put(to, b"a stroke\n"),
+        Given::Done => put(to, b"done\n"),
+        Given::Refused(number, _) => tell_refused(to, number),
     }
 }
 
-fn tell_refused(number: u64) {
-    put(b"refused ");
-    io::print_decimal(STDOUT_FILENO, number);
-    put(b"\n");
+fn tell_refused(to: Stdout, number: u64) {
+    put(to, b"refused ");
+    put_number(to, number);
+    put(to, b"\n");
 }
 
-fn main() {
+fn main(rt: HostRuntime) {
     let mut path = [0i32; ROOM];
-    let mut buf = io::large_buffer();
+    let mut buf = [0u8; CHUNK];
     let table = with_aperture(aperture::none(), 10);
     let table = with_aperture(table, 11);
     let table = with_aperture(table, 12);
     let table = with_aperture(table, 13);
-    let turn = read_all(table, &mut buf, &mut path);
+    let turn = read_all(rt, table, &mut buf, &mut path);
     let reader = turn.reader;
     let last = gerber::finish(reader);
     let given = last.given;
-    io::print_decimal(STDOUT_FILENO, turn.strokes);
-    put(b" strokes, ");
-    io::print_decimal(STDOUT_FILENO, turn.entries);
-    put(b" entries, ");
-    tell_end(given);
+    let to = rt.stdout();
+    put_number(to, turn.strokes);
+    put(to, b" strokes, ");
+    put_number(to, turn.entries);
+    put(to, b" entries, ");
+    tell_end(to, given);
 }

@@ -28,12 +28,12 @@ fn dot(out: &mut [u8]) -> Answer
     film_band::put_band(&settings, &apertures, &starts, &entries, 5, 3, 0, 3, out)
 }
 
-fn main() {
+fn main(rt: HostRuntime) {
     let mut head = [0u8; pbm::HEADER_MAX];
     let answer = header(&mut head);
-    if tell::deliver(b"dot", answer, &head) {
+    if tell::deliver(rt.stdout(), rt.stderr(), b"dot", answer, &head) {
         let mut rows = [0u8; 3];
         let answer = dot(&mut rows);
-        tell::deliver(b"dot", answer, &rows);
+        tell::deliver(rt.stdout(), rt.stderr(), b"dot", answer, &rows);
     }
 }

@@ -36,21 +36,23 @@ fn read(entries: &mut [i32], apertures: &mut [u64], starts: &mut [usize]) -> Fin
 }
 
 // What cannot be, by the contract of `read`, is told all the same.
-fn tell_refused(number: u64, place: u64) {
+fn tell_refused(rt: HostRuntime, number: u64, place: u64) {
     let answer = checks::report(Verdict::Refused(number, place));
-    tell::deliver(b"film", answer, b"");
+    tell::deliver(rt.stdout(), rt.stderr(), b"film", answer, b"");
 }
 
-fn main() {
+fn main(rt: HostRuntime) {
     let settings = legend::SETTINGS;
     let mut entries = [0i32; ENTRIES];
     let mut apertures = [0u64; STROKES];
     let mut starts = [0usize; STARTS];
     let finished = read(&mut entries, &mut apertures, &mut starts);
     if let Finished::Refused(number, place) = finished {
-        return tell_refused(number, place);
+        return tell_refused(rt, number, place);
     }
     output::write(
+        rt.stdout(),
+        rt.stderr(),
         b"film",
         &settings,
         &apertures,

@@ -98,6 +98,16 @@ pub fn fill(input: Stdin, errors: Stderr, buf: &mut [u8], told: &[u8]) -> Got
     }
 }
 
+// Why a word could not be read, as an error of the system.
+pub fn word_error(e: FillError) -> io::Error {
+    match e {
+        FillError::TooLong => {
+            io::Error::new(io::ErrorKind::InvalidFilename, "File name too long")
+        }
+        FillError::NotPresent => io::Error::new(io::ErrorKind::InvalidInput, "Invalid argument"),
+    }
+}
+
 // Whether the program was started with a word of that number, its own name being word 0.
 pub fn is_given(rt: &impl Env, i: usize) -> bool {
     !matches!(rt.arg(i, &mut []), Err(FillError::NotPresent))

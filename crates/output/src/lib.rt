@@ -14,6 +14,7 @@ ghost use Rattle.output.specs.Bands.{rows_of, next_put};
 
 use checks::Answer;
 use limits::Verdict;
+use std::io::{Stderr, Stdout};
 
 // How many bytes of the film are drawn at a time, at most: 256 rows of the widest.
 const BAND: usize = 524288;
@@ -52,19 +53,29 @@ fn put_next(
 }
 
 // Writes the header of a film of so many columns and rows, and behind it the top band, which has been put.
-fn write_put(program: &[u8], columns: u64, rows: u64, top: Answer, band: &[u8]) -> bool
+fn write_put(
+    to: Stdout,
+    told: Stderr,
+    program: &[u8],
+    columns: u64,
+    rows: u64,
+    top: Answer,
+    band: &[u8],
+) -> bool
     requires { top.refusal ≡ 0 }
 {
     let mut header = [0u8; pbm::HEADER_MAX];
     let answer = pbm::put_header(&mut header, columns, rows);
-    if !tell::deliver(program, answer, &header) {
+    if !tell::deliver(to, told, program, answer, &header) {
         return false;
     }
-    tell::deliver(program, top, band)
+    tell::deliver(to, told, program, top, band)
 }
 
 // Writes the header and the top band; nothing where anything is refused.
 fn write_top(
+    to: Stdout,
+    told: Stderr,
     program: &[u8],
     settings: &[u64],
     apertures: &[u64],
@@ -84,13 +95,15 @@ fn write_top(
         settings, apertures, starts, entries, columns, rows, first, n, out,
     );
     if top.refusal != limits::DONE {
-        return tell::deliver(program, top, out);
+        return tell::deliver(to, told, program, top, out);
     }
-    write_put(program, columns, n, top, out)
+    write_put(to, told, program, columns, n, top, out)
 }
 
 // Writes the bands of the rows that are left, up to the first that could not be written.
 fn write_rest(
+    to: Stdout,
+    told: Stderr,
     program: &[u8],
     settings: &[u64],
     apertures: &[u64],
@@ -109,7 +122,7 @@ fn write_rest(
         let answer = put_next(
             settings, apertures, starts, entries, columns, rows, first, left, out,
         );
-        if !tell::deliver(program, answer, out) {
+        if !tell::deliver(to, told, program, answer, out) {
             return false;
         }
         left -= rows_of(columns, left);
@@ -121,6 +134,8 @@ fn write_rest(
 // then the rows, the top one first. Answers whether all was written. A refusal, which a row that the film
 // has not is too (5), is told in the name of the program, and nothing is written.
 pub fn write(
+    to: Stdout,
+    told: Stderr,
     program: &[u8],
     settings: &[u64],
     apertures: &[u64],
@@ -140,15 +155,16 @@ pub fn write(
         let answer = film_band::put_band(
             settings, apertures, starts, entries, columns, rows, first, n, &mut out,
         );
-        return tell::deliver(program, answer, &out);
+        return tell::deliver(to, told, program, answer, &out);
     }
     if !write_top(
-        program, settings, apertures, starts, entries, columns, rows, first, n, &mut out,
+        to, told, program, settings, apertures, starts, entries, columns, rows, first, n, &mut out,
     ) {
         return false;
     }
     let left = n - rows_of(columns, n);
     write_rest(
-        program, settings, apertures, starts, entries, columns, rows, first, left, &mut out,
+        to, told, program, settings, apertures, starts, entries, columns, rows, first, left,
+        &mut out,
     )
 }

@@ -7,8 +7,10 @@
 
 use compare::{Ends, Refusal, Sizes};
 use files::read_at;
-use libc::STDERR_FILENO;
 use output::write;
+use std::env::Env;
+use std::fs::File;
+use std::str;
 
 mod files;
 mod output;
@@ -18,17 +20,21 @@ const TEXT_ROOM: usize = lines::TEXT_ROOM;
 
 const HEADER_MAX: usize = pbm::HEADER_MAX;
 
+// How many bytes of a file's name are read: no path is longer.
+const NAME_MAX: usize = 4096;
+
 // A refusal is its own line.
-fn tell(r: Refusal, out: &mut [u8]) {
+fn tell_refusal(rt: HostRuntime, r: Refusal, out: &mut [u8]) {
     let count = compare::put_refusal(r, out);
-    write(out, count);
+    write(rt.stdout(), rt.stderr(), out, count);
 }
 
 // Two films of one size whose data start at `start`: their ends, and then their rows.
 fn lay_films(
-    first: i32,
+    rt: HostRuntime,
+    first: &File,
     first_name: &[u8],
-    second: i32,
+    second: &File,
     second_name: &[u8],
     columns: u64,
     rows: u64,
@@ -37,17 +43,19 @@ fn lay_films(
 ) {
     let last = compare::last_byte(columns, rows, start);
     let mut space = [0u8; 2];
-    let one = read_at(first, first_name, &mut space, last);
+    let one = read_at(first, rt.stderr(), first_name, &mut space, last);
     if one.is_failed {
         return;
     }
-    let two = read_at(second, second_name, &mut space, last);
+    let two = read_at(second, rt.stderr(), second_name, &mut space, last);
     if two.is_failed {
         return;
     }
     match compare::ends_check(one.count, two.count) {
-        Ends::Refused(r) => tell(r, out),
+        Ends::Refused(r) => tell_refusal(rt, r, out),
         Ends::Whole => rows::tell_rows(
+            rt.stdout(),
+            rt.stderr(),
             first,
             first_name,
             second,
@@ -61,15 +69,15 @@ fn lay_films(
 }
 
 // Two open files: their headers, and then what follows.
-fn lay_files(first: i32, first_name: &[u8], second: i32, second_name: &[u8]) {
+fn lay_files(rt: HostRuntime, first: &File, first_name: &[u8], second: &File, second_name: &[u8]) {
     let mut out = [0u8; TEXT_ROOM];
     let mut first_text = [0u8; HEADER_MAX];
-    let one = read_at(first, first_name, &mut first_text, 0);
+    let one = read_at(first, rt.stderr(), first_name, &mut first_text, 0);
     if one.is_failed {
         return;
     }
     let mut second_text = [0u8; HEADER_MAX];
-    let two = read_at(second, second_name, &mut second_text, 0);
+    let two = read_at(second, rt.stderr(), second_name, &mut second_text, 0);
     if two.is_failed {
         return;
     }
@@ -78,8 +86,9 @@ fn lay_files(first: i32, first_name: &[u8], second: i32, second_name: &[u8]) {
     let first_header = pbm::read_header(&first_text[..n]);
     let second_header = pbm::read_header(&second_text[..m]);
     match compare::headers_check(first_header, second_header) {
-        Sizes::Refused(r) => tell(r, &mut out),
+        Sizes::Refused(r) => tell_refusal(rt, r, &mut out),
         Sizes::Equal(columns, rows, start) => lay_films(
+            rt,
             first,
             first_name,
             second,
@@ -92,35 +101,52 @@ fn lay_files(first: i32, first_name: &[u8], second: i32, second_name: &[u8]) {
     }
 }
 
-// The second file, once the first is open.
-fn open_second(first: i32, first_name: &[u8]) {
-    let mut name = io::buffer();
-    let n = os::arg(2, &mut name);
-    if os::errno() != 0 {
-        return os::fail(b"the second film's name");
+// The file of a name. Where it cannot be opened, that is told.
+fn open(rt: HostRuntime, name: &[u8]) -> Option<File> {
+    let Ok(path) = str::from_utf8(name) else {
+        tell::say(rt.stderr(), name);
+        tell::say(rt.stderr(), b": the name is no UTF-8\n");
+        return None;
+    };
+    match File::open(&rt, path) {
+        Ok(file) => Some(file),
+        Err(e) => {
+            tell::fail(rt.stderr(), name, e);
+            None
+        }
     }
-    let second = os::open_read(&name[..n]);
-    if second < 0 {
-        return os::fail(&name[..n]);
-    }
-    lay_files(first, first_name, second, &name[..n]);
-    libc::close(second);
 }
 
-fn main() {
-    if os::arg_count() != 3 {
-        io::write_all(STDERR_FILENO, b"usage: overlay FIRST SECOND\n");
+// The second file, once the first is open.
+fn open_second(rt: HostRuntime, first: &File, first_name: &[u8]) {
+    let mut name = [0u8; NAME_MAX];
+    let n = match rt.arg(2, &mut name) {
+        Ok(n) => n,
+        Err(e) => {
+            return tell::fail(
+                rt.stderr(),
+                b"the second film's name",
+                inputs::word_error(e),
+            );
+        }
+    };
+    let Some(second) = open(rt, &name[..n]) else {
         return;
+    };
+    lay_files(rt, first, first_name, &second, &name[..n]);
+}
+
+fn main(rt: HostRuntime) {
+    if inputs::word_count(&rt) != 3 {
+        return tell::say(rt.stderr(), b"usage: overlay FIRST SECOND\n");
     }
-    let mut name = io::buffer();
-    let n = os::arg(1, &mut name);
-    if os::errno() != 0 {
-        return os::fail(b"the first film's name");
-    }
-    let first = os::open_read(&name[..n]);
-    if first < 0 {
-        return os::fail(&name[..n]);
-    }
-    open_second(first, &name[..n]);
-    libc::close(first);
+    let mut name = [0u8; NAME_MAX];
+    let n = match rt.arg(1, &mut name) {
+        Ok(n) => n,
+        Err(e) => return tell::fail(rt.stderr(), b"the first film's name", inputs::word_error(e)),
+    };
+    let Some(first) = open(rt, &name[..n]) else {
+        return;
+    };
+    open_second(rt, &first, &name[..n]);
 }

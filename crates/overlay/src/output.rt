@@ -1,6 +1,6 @@
 // What is written on standard output: a page at a time, since a call for each short line would take
 // longer than reading the films.
-use libc::{STDERR_FILENO, STDOUT_FILENO};
+use std::io::{Print, Stderr, Stdout};
 
 // How many bytes of a page are used; or that a write failed, which has been told.
 #[derive(Drop)]
@@ -10,29 +10,28 @@ pub struct Page {
 }
 
 // Tells what cannot be: by what `compare` promises no branch that calls this is taken.
-pub fn fault() {
-    io::write_all(
-        STDERR_FILENO,
-        b"overlay: a fault of the program, and no report\n",
-    );
+pub fn fault(told: Stderr) {
+    tell::say(told, b"overlay: a fault of the program, and no report\n");
 }
 
 // Writes the first bytes of a text, and answers whether that was done. A write that fails is told.
-pub fn write(out: &[u8], count: usize) -> bool {
+pub fn write(to: Stdout, told: Stderr, out: &[u8], count: usize) -> bool {
     if out.len() < count {
-        fault();
+        fault(told);
         return false;
     }
-    if !io::write_all(STDOUT_FILENO, &out[..count]) {
-        os::fail(b"standard output");
-        return false;
+    match Print::write_all(&to, &out[..count]) {
+        Ok(()) => true,
+        Err(e) => {
+            tell::fail(told, b"standard output", e);
+            false
+        }
     }
-    true
 }
 
 // Writes the page, and then the text at the start of it; or by itself where it is longer.
-fn turn(page: &mut [u8], used: usize, text: &[u8]) -> Page {
-    if !write(page, used) {
+fn turn(to: Stdout, told: Stderr, page: &mut [u8], used: usize, text: &[u8]) -> Page {
+    if !write(to, told, page, used) {
         return Page {
             used: 0,
             is_failed: true,
@@ -47,14 +46,21 @@ fn turn(page: &mut [u8], used: usize, text: &[u8]) -> Page {
     }
     Page {
         used: 0,
-        is_failed: !write(text, text.len()),
+        is_failed: !write(to, told, text, text.len()),
     }
 }
 
 // Puts the first bytes of a text on the page, of which so many bytes are used.
-pub fn collect(page: &mut [u8], used: usize, out: &[u8], count: usize) -> Page {
+pub fn collect(
+    to: Stdout,
+    told: Stderr,
+    page: &mut [u8],
+    used: usize,
+    out: &[u8],
+    count: usize,
+) -> Page {
     if out.len() < count {
-        fault();
+        fault(told);
         return Page {
             used: used,
             is_failed: true,
@@ -67,5 +73,5 @@ pub fn collect(page: &mut [u8], used: usize, out: &[u8], count: usize) -> Page {
             is_failed: false,
         };
     }
-    turn(page, used, &out[..count])
+    turn(to, told, page, used, &out[..count])
 }

@@ -5,28 +5,33 @@ ghost use Rattle.std.specs.Prelude.{◌*◌, ◌≤◌};
 use crate::files::{FAR, read_at};
 use crate::output::{Page, collect, fault, write};
 use compare::Overlay;
-use libc::STDERR_FILENO;
+use std::fs::File;
+use std::io::{Stderr, Stdout};
 
 // How many bytes of each film are read at a time: at least 32 rows.
 const BLOCK: usize = 65536;
 
 // The bytes of some rows at the start of space. A file that ends before them has changed since its
 // end was looked at.
-fn read_rows(fd: i32, name: &[u8], space: &mut [u8], length: usize, offset: u64) -> bool {
+fn read_rows(
+    file: &File,
+    told: Stderr,
+    name: &[u8],
+    space: &mut [u8],
+    length: usize,
+    offset: u64,
+) -> bool {
     if space.len() < length {
-        fault();
+        fault(told);
         return false;
     }
-    let got = read_at(fd, name, &mut space[..length], offset);
+    let got = read_at(file, told, name, &mut space[..length], offset);
     if got.is_failed {
         return false;
     }
     if got.count < length {
-        io::write_all(STDERR_FILENO, name);
-        io::write_all(
-            STDERR_FILENO,
-            b": ended within a row, having been whole before\n",
-        );
+        tell::say(told, name);
+        tell::say(told, b": ended within a row, having been whole before\n");
         return false;
     }
     true
@@ -34,6 +39,8 @@ fn read_rows(fd: i32, name: &[u8], space: &mut [u8], length: usize, offset: u64)
 
 // Puts the rows of a block, `width` bytes each, of which the first is row left - 1, on the page.
 fn tell_block(
+    to: Stdout,
+    told: Stderr,
     columns: u64,
     left: u64,
     width: usize,
@@ -51,11 +58,11 @@ fn tell_block(
         is_failed: true,
     };
     if a.len() < length {
-        fault();
+        fault(told);
         return p;
     }
     if b.len() < length {
-        fault();
+        fault(told);
         return p;
     }
     let mut o = Overlay {
@@ -65,12 +72,12 @@ fn tell_block(
     let mut at = 0;
     while at < length {
         if length - at < width {
-            fault();
+            fault(told);
             return p;
         }
         let end = at + width;
         let s = compare::next_row(o, &a[at..end], &b[at..end], out);
-        p = collect(page, p.used, out, s.count);
+        p = collect(to, told, page, p.used, out, s.count);
         if p.is_failed {
             return p;
         }
@@ -96,9 +103,11 @@ fn rows_of_block(width: usize, left: u64) -> usize
 // Puts all rows of two open films whose data start at `start` on the page, which is empty at first.
 // Answers what is left on it.
 fn tell_pages(
-    first: i32,
+    to: Stdout,
+    told: Stderr,
+    first: &File,
     first_name: &[u8],
-    second: i32,
+    second: &File,
     second_name: &[u8],
     columns: u64,
     rows: u64,
@@ -108,32 +117,34 @@ fn tell_pages(
 ) -> usize {
     let width = bits::length_of(columns as usize);
     if width < 1 {
-        fault();
+        fault(told);
         return 0;
     }
-    let mut a = io::large_buffer();
-    let mut b = io::large_buffer();
+    let mut a = [0u8; BLOCK];
+    let mut b = [0u8; BLOCK];
     let mut used = 0;
     let mut left = rows;
     let mut offset = start;
     while left > 0 {
         let count = rows_of_block(width, left);
         if count < 1 {
-            fault();
+            fault(told);
             return used;
         }
         if FAR < offset {
-            fault();
+            fault(told);
             return used;
         }
         let length = count * width;
-        if !read_rows(first, first_name, &mut a, length, offset) {
+        if !read_rows(first, told, first_name, &mut a, length, offset) {
             return used;
         }
-        if !read_rows(second, second_name, &mut b, length, offset) {
+        if !read_rows(second, told, second_name, &mut b, length, offset) {
             return used;
         }
-        let p = tell_block(columns, left, width, &a, &b, length, out, page, used);
+        let p = tell_block(
+            to, told, columns, left, width, &a, &b, length, out, page, used,
+        );
         if p.is_failed {
             return 0;
         }
@@ -147,17 +158,21 @@ fn tell_pages(
 // Tells all rows of two open films whose data start at `start`. What was on the page is written
 // where a film cannot be read further, too.
 pub fn tell_rows(
-    first: i32,
+    to: Stdout,
+    told: Stderr,
+    first: &File,
     first_name: &[u8],
-    second: i32,
+    second: &File,
     second_name: &[u8],
     columns: u64,
     rows: u64,
     start: u64,
     out: &mut [u8],
 ) {
-    let mut page = io::large_buffer();
+    let mut page = [0u8; BLOCK];
     let used = tell_pages(
+        to,
+        told,
         first,
         first_name,
         second,
@@ -168,5 +183,5 @@ pub fn tell_rows(
         out,
         &mut page,
     );
-    write(&page, used);
+    write(to, told, &page, used);
 }

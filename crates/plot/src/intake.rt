@@ -7,6 +7,10 @@ use crate::refusal;
 use aperture::Table;
 use gather::{Finished, Gathering};
 use marks::Marks;
+use std::io::{Stderr, Stdin};
+
+// How many bytes of the file are read at a time, at most.
+const CHUNK: usize = 65536;
 
 // Whole: so many strokes are in the lists. Told: there is no film, and it has been told why.
 #[derive(Drop)]
@@ -65,6 +69,8 @@ fn failed(turn: Turn) -> Turn {
 
 // Reads a chunk as long as the buffer, but for the last one, and gathers its strokes.
 fn read_chunk(
+    input: Stdin,
+    told: Stderr,
     turn: Turn,
     table: Table,
     buf: &mut [u8],
@@ -72,7 +78,7 @@ fn read_chunk(
     apertures: &mut [u64],
     starts: &mut [usize],
 ) -> Turn {
-    let got = inputs::fill(buf, b"plot: standard input");
+    let got = inputs::fill(input, told, buf, b"plot: standard input");
     let count = got.count;
     if got.is_failed {
         return failed(turn);
@@ -83,17 +89,19 @@ fn read_chunk(
 
 // Reads on, up to the file's end or a refusal. There are fewer chunks than the count goes down to.
 fn read_all(
+    input: Stdin,
+    told: Stderr,
     turn: Turn,
     table: Table,
     path: &mut [i32],
     apertures: &mut [u64],
     starts: &mut [usize],
 ) -> Turn {
-    let mut buf = io::large_buffer();
+    let mut buf = [0u8; CHUNK];
     let mut now = turn;
     let mut left = u64::MAX;
     while 0 < left && now.going {
-        let next = read_chunk(now, table, &mut buf, path, apertures, starts);
+        let next = read_chunk(input, told, now, table, &mut buf, path, apertures, starts);
         now = next;
         left -= 1;
     }
@@ -101,7 +109,7 @@ fn read_all(
 }
 
 // The file has ended: its strokes are all in the lists, or it is told what is refused.
-fn finish(turn: Turn, starts: &mut [usize]) -> Intake {
+fn finish(told: Stderr, turn: Turn, starts: &mut [usize]) -> Intake {
     let g = turn.gathering;
     let m = turn.marks;
     let finished = gather::finish(g, starts);
@@ -109,12 +117,14 @@ fn finish(turn: Turn, starts: &mut [usize]) -> Intake {
         return Intake::Whole(g.count);
     };
     let mark = marks::mark_of(m, place);
-    refusal::tell_file(number, mark, marks::is_end(m, place));
+    refusal::tell_file(told, number, mark, marks::is_end(m, place));
     Intake::Told
 }
 
 // Reads all of standard input, a unit being so many nanometres.
 pub fn read(
+    input: Stdin,
+    told: Stderr,
     unit: u64,
     settings: &[u64],
     path: &mut [i32],
@@ -128,13 +138,13 @@ pub fn read(
         going: true,
         failed: false,
     };
-    let last = read_all(start, table, path, apertures, starts);
+    let last = read_all(input, told, start, table, path, apertures, starts);
     if last.failed {
         return Intake::Told;
     }
     if last.going {
-        refusal::fault();
+        refusal::fault(told);
         return Intake::Told;
     }
-    finish(last, starts)
+    finish(told, last, starts)
 }

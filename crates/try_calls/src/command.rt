@@ -24,7 +24,7 @@ pub const ROOM_MAX: usize = 8200;
 pub const RECORDS_MAX: usize = 4100;
 
 // What a, b and c are, the kind says: w, p and q, or the columns, the rows and the row.
-#[derive(Drop)]
+#[derive(Clone, Copy)]
 pub struct Command {
     pub kind: u64,
     pub number: u64,

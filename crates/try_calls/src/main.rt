@@ -10,8 +10,8 @@
 // place and the count, of eight bytes each, and then all that was lent: two bytes to a number, one
 // to a byte, four to a record. Before the call it held the pattern of the module pattern.
 //
-// Where the stream breaks off, a command is none of these or an answer cannot be written, the tool
-// ends, and tells it on standard error.
+// Where the stream breaks off or cannot be read, a command is none of these or an answer cannot be
+// written, the tool ends, and tells it on standard error.
 #![tactic(auto)]
 
 mod command;
@@ -22,7 +22,6 @@ mod pattern;
 
 use aperture::{Changed, Table};
 use command::Command;
-use libc::STDIN_FILENO;
 
 // The table after a command, and whether another can follow.
 #[derive(Drop)]
@@ -31,71 +30,77 @@ struct Turn {
     going: bool,
 }
 
-fn answered(changed: Changed) -> Turn {
+fn answered(rt: HostRuntime, changed: Changed) -> Turn {
     let table = changed.table;
     Turn {
         table: table,
-        going: output::put_number(changed.refusal),
+        going: output::put_number(rt, changed.refusal),
     }
 }
 
 // Obeys a command.
-fn obey(t: Table, c: Command) -> Turn {
+fn obey(rt: HostRuntime, t: Table, c: Command) -> Turn {
     if c.kind == command::START {
         return Turn {
             table: aperture::none(),
-            going: output::put_number(limits::DONE),
+            going: output::put_number(rt, limits::DONE),
         };
     }
     if c.kind == command::DEFINE {
         let changed = aperture::define(t, c.number, c.a, c.b, c.c);
-        return answered(changed);
+        return answered(rt, changed);
     }
     if c.kind == command::REMOVE {
         let changed = aperture::remove(t, c.number);
-        return answered(changed);
+        return answered(rt, changed);
     }
     if c.kind <= command::RECORDS {
         return Turn {
             table: t,
-            going: draw::draw(t, c),
+            going: draw::draw(rt, t, c),
         };
     }
     Turn {
         table: t,
-        going: output::leave(b"a command of no kind"),
+        going: output::leave(rt.stderr(), b"a command of no kind"),
     }
 }
 
 // Reads one command and obeys it.
-fn one(t: Table) -> Turn {
+fn one(rt: HostRuntime, t: Table) -> Turn {
     let mut head = [0u8; command::HEAD];
-    let n = io::read_full(STDIN_FILENO, &mut head);
-    if n == 0 {
+    let got = inputs::fill(
+        rt.stdin(),
+        rt.stderr(),
+        &mut head,
+        b"try_calls: standard input",
+    );
+    if got.is_failed || got.count == 0 {
         return Turn {
             table: t,
             going: false,
         };
     }
-    if n < command::HEAD {
+    if got.count < command::HEAD {
         return Turn {
             table: t,
-            going: output::leave(b"the stream breaks off in a command"),
+            going: output::leave(rt.stderr(), b"the stream breaks off in a command"),
         };
     }
-    obey(t, command::decode(&head))
+    obey(rt, t, command::decode(&head))
 }
 
-// A proved loop has to end, and nothing says that the input does. So the loop counts its turns
-// down, from a number that no run uses up.
-fn main() {
-    let mut turns = u64::MAX;
+// A proved loop has to end, and nothing says that the input does. So the loop counts its turns, up to a
+// number that no run uses up.
+fn main(rt: HostRuntime) {
     let mut turn = Turn {
         table: aperture::none(),
         going: true,
     };
-    while turns > 0 && turn.going {
-        turn = one(turn.table);
-        turns -= 1;
+    for _ in 0..u64::MAX {
+        if !turn.going {
+            return;
+        }
+        turn = one(rt, turn.table);
     }
 }

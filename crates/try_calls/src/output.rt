@@ -4,47 +4,47 @@ ghost use Rattle.try_calls.specs.Command.{room_max, records_max};
 
 use crate::command::{RECORDS_MAX, ROOM_MAX};
 use checks::Answer;
-use libc::{STDERR_FILENO, STDOUT_FILENO};
 use records::Run;
+use std::io::Stderr;
 
 // Tells why the stream is left, and answers false: no command can follow.
-pub fn leave(why: &[u8]) -> bool {
-    io::write_all(STDERR_FILENO, b"try_calls: ");
-    io::write_all(STDERR_FILENO, why);
-    io::write_all(STDERR_FILENO, b"\n");
+pub fn leave(told: Stderr, why: &[u8]) -> bool {
+    tell::say(told, b"try_calls: ");
+    tell::say(told, why);
+    tell::say(told, b"\n");
     false
 }
 
 // Whether the bytes are written.
-pub fn put(bytes: &[u8]) -> bool {
-    if io::write_all(STDOUT_FILENO, bytes) {
+pub fn put(rt: HostRuntime, bytes: &[u8]) -> bool {
+    if tell::put(rt.stdout(), bytes) {
         return true;
     }
-    leave(b"an answer cannot be written")
+    leave(rt.stderr(), b"an answer cannot be written")
 }
 
-pub fn put_number(n: u64) -> bool {
+pub fn put_number(rt: HostRuntime, n: u64) -> bool {
     let bytes = wire::number_bytes(n);
-    put(&bytes)
+    put(rt, &bytes)
 }
 
-pub fn put_answer(a: Answer) -> bool {
-    put_number(a.refusal) && put_number(a.place) && put_number(a.count)
+pub fn put_answer(rt: HostRuntime, a: Answer) -> bool {
+    put_number(rt, a.refusal) && put_number(rt, a.place) && put_number(rt, a.count)
 }
 
 // Writes a list, two bytes to a number.
-pub fn put_pairs(list: &[u16]) -> bool
+pub fn put_pairs(rt: HostRuntime, list: &[u16]) -> bool
     requires { length list.now ≤ room_max }
 {
     let mut bytes = [0u8; 2 * ROOM_MAX];
     let n = list.len();
     wire::encode(list, n, &mut bytes);
     let end = 2 * n;
-    put(&bytes[..end])
+    put(rt, &bytes[..end])
 }
 
 // Writes the first records of a list, two numbers to a record.
-pub fn put_records(list: [Run; RECORDS_MAX], n: usize) -> bool
+pub fn put_records(rt: HostRuntime, list: [Run; RECORDS_MAX], n: usize) -> bool
     requires { n ≤ records_max }
 {
     let mut numbers = [0u16; ROOM_MAX];
@@ -56,5 +56,5 @@ pub fn put_records(list: [Run; RECORDS_MAX], n: usize) -> bool
         i += 1;
     }
     let end = 2 * n;
-    put_pairs(&numbers[..end])
+    put_pairs(rt, &numbers[..end])
 }

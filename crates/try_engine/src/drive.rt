@@ -18,7 +18,7 @@ struct Turn {
 }
 
 // Makes a step, and writes its answer and all that was lent to it.
-fn step(e: Engine, list: &mut [u16]) -> Turn
+fn step(rt: HostRuntime, e: Engine, list: &mut [u16]) -> Turn
     requires { length list.old ≤ room_max }
 {
     let stepped = engine::step(e, list);
@@ -26,39 +26,39 @@ fn step(e: Engine, list: &mut [u16]) -> Turn
     let engine = stepped.engine;
     Turn {
         engine: engine,
-        going: output::put_answer(answer) && output::put_list(list),
+        going: output::put_answer(rt, answer) && output::put_list(rt, list),
     }
 }
 
 // Makes a step with so much room.
-fn step_with(e: Engine, room: usize) -> Turn
+fn step_with(rt: HostRuntime, e: Engine, room: usize) -> Turn
     requires { room ≤ room_max }
 {
     let mut list = PATTERN;
-    step(e, &mut list[..room])
+    step(rt, e, &mut list[..room])
 }
 
 // Makes a step, unless it asks for more room than there is.
-fn try_step(e: Engine, room: u8) -> Turn {
+fn try_step(rt: HostRuntime, e: Engine, room: u8) -> Turn {
     let n = room as usize;
     if n > ROOM_MAX {
         return Turn {
             engine: e,
-            going: output::leave(b"a room is too large for the tool"),
+            going: output::leave(rt.stderr(), b"a room is too large for the tool"),
         };
     }
-    step_with(e, n)
+    step_with(rt, e, n)
 }
 
 // Makes a step for each room. False where no request can follow.
-pub fn drive(e: Engine, rooms: &[u8]) -> bool {
+pub fn drive(rt: HostRuntime, e: Engine, rooms: &[u8]) -> bool {
     let mut turn = Turn {
         engine: e,
         going: true,
     };
     let mut i = 0;
     while i < rooms.len() {
-        turn = try_step(turn.engine, rooms[i]);
+        turn = try_step(rt, turn.engine, rooms[i]);
         if !turn.going {
             return false;
         }

@@ -11,52 +11,65 @@
 // bytes each. The same follows for each step, and then all that was lent to it, two bytes to a number.
 // Steps are made after a refused start, and after a refused step, too.
 //
-// Where the stream breaks off, a request is too long for the tool or an answer cannot be written, the
-// tool ends, and tells it on standard error.
+// Where the stream breaks off or cannot be read, a request is too long for the tool or an answer cannot be
+// written, the tool ends, and tells it on standard error.
 #![tactic(auto)]
 
 mod drive;
 mod output;
 mod request;
 
-use libc::STDIN_FILENO;
 use request::{PATH_MAX, Request, STEPS_MAX};
 
 // Reads as many bytes as there is room for.
-fn read(bytes: &mut [u8]) -> bool {
-    let n = io::read_full(STDIN_FILENO, bytes);
-    if n < bytes.len() {
-        return output::leave(b"the stream breaks off in a request");
+fn read(rt: HostRuntime, bytes: &mut [u8]) -> bool {
+    let got = inputs::fill(
+        rt.stdin(),
+        rt.stderr(),
+        bytes,
+        b"try_engine: standard input",
+    );
+    if got.is_failed {
+        return false;
+    }
+    if got.count < bytes.len() {
+        return output::leave(rt.stderr(), b"the stream breaks off in a request");
     }
     true
 }
 
 // Starts an engine and makes its steps.
-fn answer(r: Request, path: &[i32], rooms: &[u8]) -> bool {
+fn answer(rt: HostRuntime, r: Request, path: &[i32], rooms: &[u8]) -> bool {
     let defined = aperture::define(aperture::none(), r.defined, r.w, r.p, r.q);
     let table = defined.table;
     let started = engine::start(table, r.number, path, r.columns, r.rows, r.row);
     let answer = started.answer;
     let engine = started.engine;
-    output::put_answer(answer) && drive::drive(engine, rooms)
+    output::put_answer(rt, answer) && drive::drive(rt, engine, rooms)
 }
 
 // Reads what follows a head, and answers the request.
-fn read_on(r: Request, bytes: &mut [u8], path: &mut [i32], rooms: &mut [u8]) -> bool {
-    if !read(bytes) {
+fn read_on(
+    rt: HostRuntime,
+    r: Request,
+    bytes: &mut [u8],
+    path: &mut [i32],
+    rooms: &mut [u8],
+) -> bool {
+    if !read(rt, bytes) {
         return false;
     }
-    if !read(rooms) {
+    if !read(rt, rooms) {
         return false;
     }
     wire::decode(bytes, path);
-    answer(r, path, rooms)
+    answer(rt, r, path, rooms)
 }
 
 // Answers the request of a head. False where no other can follow.
-fn obey(r: Request) -> bool {
+fn obey(rt: HostRuntime, r: Request) -> bool {
     if r.entries > PATH_MAX as u64 || r.steps > STEPS_MAX as u64 {
-        return output::leave(b"a request is too long for the tool");
+        return output::leave(rt.stderr(), b"a request is too long for the tool");
     }
     let n = r.entries as usize;
     let end = 4 * n;
@@ -64,27 +77,39 @@ fn obey(r: Request) -> bool {
     let mut bytes = [0u8; 4 * PATH_MAX];
     let mut path = [0i32; PATH_MAX];
     let mut rooms = [0u8; STEPS_MAX];
-    read_on(r, &mut bytes[..end], &mut path[..n], &mut rooms[..steps])
+    read_on(
+        rt,
+        r,
+        &mut bytes[..end],
+        &mut path[..n],
+        &mut rooms[..steps],
+    )
 }
 
 // Reads one request and answers it.
-fn one() -> bool {
+fn one(rt: HostRuntime) -> bool {
     let mut head = [0u8; request::HEAD];
-    let n = io::read_full(STDIN_FILENO, &mut head);
-    if n == 0 {
+    let got = inputs::fill(
+        rt.stdin(),
+        rt.stderr(),
+        &mut head,
+        b"try_engine: standard input",
+    );
+    if got.is_failed || got.count == 0 {
         return false;
     }
-    if n < request::HEAD {
-        return output::leave(b"the stream breaks off in a request");
+    if got.count < request::HEAD {
+        return output::leave(rt.stderr(), b"the stream breaks off in a request");
     }
-    obey(request::decode(&head))
+    obey(rt, request::decode(&head))
 }
 
-// A proved loop has to end, and nothing says that the input does. So the loop counts its turns
-// down, from a number that no run uses up.
-fn main() {
-    let mut turns = u64::MAX;
-    while turns > 0 && one() {
-        turns -= 1;
+// A proved loop has to end, and nothing says that the input does. So the loop counts its turns, up to a
+// number that no run uses up.
+fn main(rt: HostRuntime) {
+    for _ in 0..u64::MAX {
+        if !one(rt) {
+            return;
+        }
     }
 }

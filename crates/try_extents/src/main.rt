@@ -9,11 +9,11 @@
 mod answer;
 
 use extent::Extent;
-use libc::{STDIN_FILENO, STDOUT_FILENO};
 use pen::Pen;
+use std::io::Stdout;
 
 // Writes what the segment of a record leaves in its row. A negative row reads as one far too large.
-fn write(s: &[u8], pen: Pen) -> bool {
+fn write(to: Stdout, s: &[u8], pen: Pen) -> bool {
     let ax = wire::signed(s, 24);
     let ay = wire::signed(s, 28);
     let bx = wire::signed(s, 32);
@@ -21,17 +21,22 @@ fn write(s: &[u8], pen: Pen) -> bool {
     let row = wire::number(s, 40);
     let Extent::Columns(first, last) = extent::extent_of(pen, ax, ay, bx, by, row) else {
         let nothing = [0u8; 1];
-        return io::write_all(STDOUT_FILENO, &nothing);
+        return tell::put(to, &nothing);
     };
     let out = answer::columns(first, last);
-    io::write_all(STDOUT_FILENO, &out)
+    tell::put(to, &out)
 }
 
 // Reads one record and writes the answer to it. False where the input ends or a write fails.
-fn one() -> bool {
+fn one(rt: HostRuntime) -> bool {
     let mut bytes = [0u8; 48];
-    let n = io::read_full(STDIN_FILENO, &mut bytes);
-    if n < 48 {
+    let got = inputs::fill(
+        rt.stdin(),
+        rt.stderr(),
+        &mut bytes,
+        b"try_extents: standard input",
+    );
+    if got.count < 48 {
         return false;
     }
     let w = wire::number(&bytes, 0);
@@ -40,14 +45,15 @@ fn one() -> bool {
     // A refused setting's pen has no corners, and leaves nothing.
     let b = pen::build(w, p, q);
     let pen = b.pen;
-    write(&bytes, pen)
+    write(rt.stdout(), &bytes, pen)
 }
 
-// A proved loop has to end, and nothing says that the input does. So the loop counts its turns
-// down, from a number that no run uses up.
-fn main() {
-    let mut turns = u64::MAX;
-    while turns > 0 && one() {
-        turns -= 1;
+// A proved loop has to end, and nothing says that the input does. So the loop counts its turns, up to a
+// number that no run uses up.
+fn main(rt: HostRuntime) {
+    for _ in 0..u64::MAX {
+        if !one(rt) {
+            return;
+        }
     }
 }

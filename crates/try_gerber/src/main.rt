@@ -24,12 +24,18 @@ ghost use Rattle.try_gerber.specs.Words.{room_max};
 
 use aperture::Table;
 use inputs::Number;
+use std::env::Env;
 use words::read_list;
 
 const ROOM_MAX: usize = 65536;
 
-// A word of a command line is shorter.
-const WORD_MAX: usize = 131072;
+// How many bytes of a word are read, and of that with the chunks, which is shorter on any command line.
+const WORD_MAX: usize = 4096;
+
+const CHUNKS_WORD_MAX: usize = 131072;
+
+// How many bytes of the file are lent at a time, at most, and how many the page holds.
+const BUFFER: usize = 65536;
 
 const CHUNKS_MAX: usize = 65536;
 
@@ -65,78 +71,89 @@ fn define(numbers: &[u64]) -> Defined {
 }
 
 // The arrays to lend, of the path so many entries.
-fn lend(t: Table, unit: u64, room: usize, chunks: &[u64])
+fn lend(rt: HostRuntime, t: Table, unit: u64, room: usize, chunks: &[u64])
     requires { room ≤ room_max }
 {
     let mut path = [0i32; ROOM_MAX];
-    let mut buf = io::large_buffer();
-    let mut page = io::large_buffer();
-    session::run(t, unit, chunks, &mut buf, &mut path[..room], &mut page);
+    let mut buf = [0u8; BUFFER];
+    let mut page = [0u8; BUFFER];
+    session::run(rt, t, unit, chunks, &mut buf, &mut path[..room], &mut page);
 }
 
 // The chunks' lengths.
-fn with_chunks(t: Table, unit: u64, room: usize)
+fn with_chunks(rt: HostRuntime, t: Table, unit: u64, room: usize)
     requires { room ≤ room_max }
 {
-    let mut word = [0u8; WORD_MAX];
-    let n = os::arg(4, &mut word);
-    if os::errno() != 0 {
-        return os::fail(b"try_gerber: CHUNKS");
-    }
+    let mut word = [0u8; CHUNKS_WORD_MAX];
+    let n = match rt.arg(4, &mut word) {
+        Ok(n) => n,
+        Err(e) => return tell::fail(rt.stderr(), b"try_gerber: CHUNKS", inputs::word_error(e)),
+    };
     let mut chunks = [0u64; CHUNKS_MAX];
     let listed = read_list(&word[..n], &mut chunks);
     if listed.is_wrong {
-        return output::tell(b"CHUNKS is no list of numbers with commas between");
+        return output::tell(
+            rt.stderr(),
+            b"CHUNKS is no list of numbers with commas between",
+        );
     }
     let count = listed.count;
-    lend(t, unit, room, &chunks[..count]);
+    lend(rt, t, unit, room, &chunks[..count]);
 }
 
 // The apertures in use.
-fn with_apertures(unit: u64, room: usize)
+fn with_apertures(rt: HostRuntime, unit: u64, room: usize)
     requires { room ≤ room_max }
 {
-    let mut word = io::buffer();
-    let n = os::arg(3, &mut word);
-    if os::errno() != 0 {
-        return os::fail(b"try_gerber: APERTURES");
-    }
+    let mut word = [0u8; WORD_MAX];
+    let n = match rt.arg(3, &mut word) {
+        Ok(n) => n,
+        Err(e) => return tell::fail(rt.stderr(), b"try_gerber: APERTURES", inputs::word_error(e)),
+    };
     let mut numbers = [0u64; APERTURES_MAX];
     let listed = read_list(&word[..n], &mut numbers);
     if listed.is_wrong {
-        return output::tell(b"APERTURES is no list of numbers with commas between");
+        return output::tell(
+            rt.stderr(),
+            b"APERTURES is no list of numbers with commas between",
+        );
     }
     let count = listed.count;
     let defined = define(&numbers[..count]);
     if defined.is_failed {
-        return output::tell(b"APERTURES has a number outside 10 to 41, or one twice");
+        return output::tell(
+            rt.stderr(),
+            b"APERTURES has a number outside 10 to 41, or one twice",
+        );
     }
     let table = defined.table;
-    with_chunks(table, unit, room);
+    with_chunks(rt, table, unit, room);
 }
 
 // The number that an argument is.
-fn number(i: usize) -> Number {
-    let mut word = io::buffer();
-    let n = os::arg(i, &mut word);
-    if os::errno() != 0 {
+fn number(rt: &impl Env, i: usize) -> Number {
+    let mut word = [0u8; WORD_MAX];
+    let Ok(n) = rt.arg(i, &mut word) else {
         return Number::Wrong;
-    }
+    };
     inputs::read_number(&word[..n])
 }
 
-fn main() {
-    if os::arg_count() != 5 {
-        return output::tell(b"usage: try_gerber N ROOM APERTURES CHUNKS <FILE");
+fn main(rt: HostRuntime) {
+    if inputs::word_count(&rt) != 5 {
+        return output::tell(
+            rt.stderr(),
+            b"usage: try_gerber N ROOM APERTURES CHUNKS <FILE",
+        );
     }
-    let Number::Value(unit) = number(1) else {
-        return output::tell(b"N is no number below 2^64");
+    let Number::Value(unit) = number(&rt, 1) else {
+        return output::tell(rt.stderr(), b"N is no number below 2^64");
     };
-    let Number::Value(room) = number(2) else {
-        return output::tell(b"ROOM is no number below 2^64");
+    let Number::Value(room) = number(&rt, 2) else {
+        return output::tell(rt.stderr(), b"ROOM is no number below 2^64");
     };
     if (ROOM_MAX as u64) < room {
-        return output::tell(b"ROOM is at most 65536");
+        return output::tell(rt.stderr(), b"ROOM is at most 65536");
     }
-    with_apertures(unit, room as usize);
+    with_apertures(rt, unit, room as usize);
 }

@@ -1,7 +1,7 @@
 // What the tool writes, a page at a time, and what it tells where it cannot go on.
 ghost use Rattle.std.specs.Prelude.{◌≡◌, unsigned_abs};
 
-use libc::{STDERR_FILENO, STDOUT_FILENO};
+use std::io::{Print, Stderr};
 
 // How many bytes of the page are used; or that a write failed, which has been told.
 #[derive(Drop)]
@@ -11,10 +11,10 @@ pub struct Page {
 }
 
 // Tells why the tool ends here.
-pub fn tell(why: &[u8]) {
-    io::write_all(STDERR_FILENO, b"try_gerber: ");
-    io::write_all(STDERR_FILENO, why);
-    io::write_all(STDERR_FILENO, b"\n");
+pub fn tell(told: Stderr, why: &[u8]) {
+    tell::say(told, b"try_gerber: ");
+    tell::say(told, why);
+    tell::say(told, b"\n");
 }
 
 pub fn empty() -> Page {
@@ -32,25 +32,27 @@ fn failed() -> Page {
 }
 
 // Writes what stands on the page.
-pub fn flush(page: &[u8], p: Page) -> Page {
+pub fn flush(rt: HostRuntime, page: &[u8], p: Page) -> Page {
     let used = p.used;
     if p.is_failed {
         return p;
     }
     if page.len() < used {
-        tell(b"more stands on the page than it holds");
+        tell(rt.stderr(), b"more stands on the page than it holds");
         return failed();
     }
-    if !io::write_all(STDOUT_FILENO, &page[..used]) {
-        os::fail(b"try_gerber: standard output");
-        return failed();
+    match Print::write_all(&rt.stdout(), &page[..used]) {
+        Ok(()) => empty(),
+        Err(e) => {
+            tell::fail(rt.stderr(), b"try_gerber: standard output", e);
+            failed()
+        }
     }
-    empty()
 }
 
 // Puts a text on the page, which is written first where the text does not fit. No text is longer
 // than a page.
-pub fn put(page: &mut [u8], p: Page, text: &[u8]) -> Page {
+pub fn put(rt: HostRuntime, page: &mut [u8], p: Page, text: &[u8]) -> Page {
     if p.is_failed {
         return p;
     }
@@ -61,7 +63,7 @@ pub fn put(page: &mut [u8], p: Page, text: &[u8]) -> Page {
             is_failed: false,
         };
     }
-    let empty = flush(page, p);
+    let empty = flush(rt, page, p);
     let end = text::put(page, empty.used, text);
     Page {
         used: end,
@@ -69,21 +71,21 @@ pub fn put(page: &mut [u8], p: Page, text: &[u8]) -> Page {
     }
 }
 
-fn put_number(page: &mut [u8], p: Page, n: u64) -> Page {
+fn put_number(rt: HostRuntime, page: &mut [u8], p: Page, n: u64) -> Page {
     let mut digits = [0u8; 20];
     let count = io::decimal(n, &mut digits);
-    put(page, p, &digits[..count])
+    put(rt, page, p, &digits[..count])
 }
 
 // A number behind a space.
-fn put_word(page: &mut [u8], p: Page, n: u64) -> Page {
-    let p = put(page, p, b" ");
-    put_number(page, p, n)
+fn put_word(rt: HostRuntime, page: &mut [u8], p: Page, n: u64) -> Page {
+    let p = put(rt, page, p, b" ");
+    put_number(rt, page, p, n)
 }
 
-fn put_words(page: &mut [u8], p: Page, n: u64, m: u64) -> Page {
-    let p = put_word(page, p, n);
-    put_word(page, p, m)
+fn put_words(rt: HostRuntime, page: &mut [u8], p: Page, n: u64, m: u64) -> Page {
+    let p = put_word(rt, page, p, n);
+    put_word(rt, page, p, m)
 }
 
 // A number without its sign. `-1 - z` never overflows.
@@ -97,29 +99,29 @@ fn size(z: i32) -> u64
     z as u64
 }
 
-fn put_signed(page: &mut [u8], p: Page, z: i32) -> Page {
+fn put_signed(rt: HostRuntime, page: &mut [u8], p: Page, z: i32) -> Page {
     if z < 0 {
-        let signed = put(page, p, b"-");
-        return put_number(page, signed, size(z));
+        let signed = put(rt, page, p, b"-");
+        return put_number(rt, page, signed, size(z));
     }
-    put_number(page, p, size(z))
+    put_number(rt, page, p, size(z))
 }
 
 // What stands before entry i: a space before x, a comma before y.
-fn put_mark(page: &mut [u8], p: Page, i: usize) -> Page {
+fn put_mark(rt: HostRuntime, page: &mut [u8], p: Page, i: usize) -> Page {
     if i % 2 == 0 {
-        return put(page, p, b" ");
+        return put(rt, page, p, b" ");
     }
-    put(page, p, b",")
+    put(rt, page, p, b",")
 }
 
 // The entries of a stroke.
-fn put_points(page: &mut [u8], p: Page, points: &[i32]) -> Page {
+fn put_points(rt: HostRuntime, page: &mut [u8], p: Page, points: &[i32]) -> Page {
     let mut line = p;
     let mut i = 0;
     while i < points.len() {
-        let marked = put_mark(page, line, i);
-        line = put_signed(page, marked, points[i]);
+        let marked = put_mark(rt, page, line, i);
+        line = put_signed(rt, page, marked, points[i]);
         i += 1;
     }
     line
@@ -127,6 +129,7 @@ fn put_points(page: &mut [u8], p: Page, points: &[i32]) -> Page {
 
 // The line of a stroke, whose entries are the points.
 pub fn put_stroke(
+    rt: HostRuntime,
     page: &mut [u8],
     p: Page,
     aperture: u64,
@@ -134,15 +137,15 @@ pub fn put_stroke(
     used: u64,
     points: &[i32],
 ) -> Page {
-    let p = put(page, p, b"stroke");
-    let p = put_words(page, p, aperture, first as u64);
-    let p = put_words(page, p, points.len() as u64, used);
-    let p = put_points(page, p, points);
-    put(page, p, b"\n")
+    let p = put(rt, page, p, b"stroke");
+    let p = put_words(rt, page, p, aperture, first as u64);
+    let p = put_words(rt, page, p, points.len() as u64, used);
+    let p = put_points(rt, page, p, points);
+    put(rt, page, p, b"\n")
 }
 
-pub fn put_refused(page: &mut [u8], p: Page, number: u64, place: u64) -> Page {
-    let p = put(page, p, b"refused");
-    let p = put_words(page, p, number, place);
-    put(page, p, b"\n")
+pub fn put_refused(rt: HostRuntime, page: &mut [u8], p: Page, number: u64, place: u64) -> Page {
+    let p = put(rt, page, p, b"refused");
+    let p = put_words(rt, page, p, number, place);
+    put(rt, page, p, b"\n")
 }

@@ -5,6 +5,7 @@ use crate::output;
 use crate::output::Page;
 use aperture::Table;
 use gerber::{Given, Reader};
+use std::io::Stderr;
 
 // Where the calls are. used: how many of the file's bytes. going: nothing has been refused, and
 // nothing failed.
@@ -39,8 +40,8 @@ fn stopped(turn: Turn) -> Turn {
 }
 
 // What was read is not to be trusted: told, and no last line.
-fn faulty(turn: Turn, why: &[u8]) -> Turn {
-    output::tell(why);
+fn faulty(told: Stderr, turn: Turn, why: &[u8]) -> Turn {
+    output::tell(told, why);
     stopped(turn)
 }
 
@@ -82,6 +83,7 @@ fn is_repeated(
 
 // A refusal is told; and it has to be repeated.
 fn refused(
+    rt: HostRuntime,
     t: Table,
     turn: Turn,
     number: u64,
@@ -92,16 +94,17 @@ fn refused(
 ) -> Turn {
     let reader = turn.reader;
     let was = turn.page;
-    let told = output::put_refused(page, was, number, place);
+    let told = output::put_refused(rt, page, was, number, place);
     let end = turned(reader, turn.used, told, false);
     if !is_repeated(t, reader, number, place, chunk, path) {
-        return faulty(end, b"a refusal is not repeated");
+        return faulty(rt.stderr(), end, b"a refusal is not repeated");
     }
     end
 }
 
 // A stroke is told; its entries are read from the path.
 fn stroke(
+    rt: HostRuntime,
     turn: Turn,
     aperture: u64,
     first: usize,
@@ -110,30 +113,34 @@ fn stroke(
     page: &mut [u8],
 ) -> Turn {
     if path.len() < length {
-        return faulty(turn, b"a stroke is longer than the path");
+        return faulty(rt.stderr(), turn, b"a stroke is longer than the path");
     }
     if path.len() - length < first {
-        return faulty(turn, b"a stroke stands outside the path");
+        return faulty(rt.stderr(), turn, b"a stroke stands outside the path");
     }
     let end = first + length;
     let reader = turn.reader;
     let was = turn.page;
-    let told = output::put_stroke(page, was, aperture, first, turn.used, &path[first..end]);
+    let told = output::put_stroke(rt, page, was, aperture, first, turn.used, &path[first..end]);
     turned(reader, turn.used, told, true)
 }
 
 // The step behind a stroke: at least one byte has been used, and no more than there are.
-fn behind(turn: Turn, used: usize, length: usize) -> Step
+fn behind(rt: HostRuntime, turn: Turn, used: usize, length: usize) -> Step
     ensures { result.rest ≤ length }
 {
     if !turn.going {
         return ended(turn);
     }
     if used == 0 {
-        return ended(faulty(turn, b"a stroke uses no byte"));
+        return ended(faulty(rt.stderr(), turn, b"a stroke uses no byte"));
     }
     if length < used {
-        return ended(faulty(turn, b"a stroke uses more bytes than there are"));
+        return ended(faulty(
+            rt.stderr(),
+            turn,
+            b"a stroke uses more bytes than there are",
+        ));
     }
     Step {
         turn: turn,
@@ -142,15 +149,16 @@ fn behind(turn: Turn, used: usize, length: usize) -> Step
 }
 
 // The chunk has to be used up.
-fn more(turn: Turn, used: usize, length: usize) -> Turn {
+fn more(rt: HostRuntime, turn: Turn, used: usize, length: usize) -> Turn {
     if used != length {
-        return faulty(turn, b"a chunk is not used up");
+        return faulty(rt.stderr(), turn, b"a chunk is not used up");
     }
     turn
 }
 
 // What a call gave is told; it used so many bytes.
 fn tell(
+    rt: HostRuntime,
     t: Table,
     turn: Turn,
     given: Given,
@@ -162,19 +170,29 @@ fn tell(
     ensures { result.rest ≤ length chunk.now }
 {
     match given {
-        Given::More => ended(more(turn, used, chunk.len())),
+        Given::More => ended(more(rt, turn, used, chunk.len())),
         Given::Stroke(aperture, first, length) => behind(
-            stroke(turn, aperture, first, length, path, page),
+            rt,
+            stroke(rt, turn, aperture, first, length, path, page),
             used,
             chunk.len(),
         ),
-        Given::Done => ended(faulty(turn, b"feed says that the file is done")),
-        Given::Refused(number, place) => ended(refused(t, turn, number, place, chunk, path, page)),
+        Given::Done => ended(faulty(rt.stderr(), turn, b"feed says that the file is done")),
+        Given::Refused(number, place) => ended(refused(
+            rt, t, turn, number, place, chunk, path, page,
+        )),
     }
 }
 
 // One call.
-fn feed_once(t: Table, turn: Turn, chunk: &[u8], path: &mut [i32], page: &mut [u8]) -> Step
+fn feed_once(
+    rt: HostRuntime,
+    t: Table,
+    turn: Turn,
+    chunk: &[u8],
+    path: &mut [i32],
+    page: &mut [u8],
+) -> Step
     ensures { result.rest ≤ length chunk.now }
 {
     let before = turn.reader;
@@ -184,11 +202,12 @@ fn feed_once(t: Table, turn: Turn, chunk: &[u8], path: &mut [i32], page: &mut [u
     let given = fed.given;
     let used = std::num::wrapping_add_u64(turn.used, fed.used as u64);
     let next = turned(reader, used, was, true);
-    tell(t, next, given, fed.used, chunk, path, page)
+    tell(rt, t, next, given, fed.used, chunk, path, page)
 }
 
 // One call with the bytes from index `at` on.
 fn feed_from(
+    rt: HostRuntime,
     t: Table,
     turn: Turn,
     chunk: &[u8],
@@ -199,15 +218,22 @@ fn feed_from(
     requires { at ≤ length chunk.now }
     ensures { at + result.rest ≤ length chunk.now }
 {
-    feed_once(t, turn, &chunk[at..], path, page)
+    feed_once(rt, t, turn, &chunk[at..], path, page)
 }
 
 // A chunk, and behind each stroke its rest again.
-fn feed(t: Table, turn: Turn, chunk: &[u8], path: &mut [i32], page: &mut [u8]) -> Turn {
+fn feed(
+    rt: HostRuntime,
+    t: Table,
+    turn: Turn,
+    chunk: &[u8],
+    path: &mut [i32],
+    page: &mut [u8],
+) -> Turn {
     let mut now = turn;
     let mut at = 0;
     while at <= chunk.len() {
-        let step = feed_from(t, now, chunk, at, path, page);
+        let step = feed_from(rt, t, now, chunk, at, path, page);
         let next = step.turn;
         now = next;
         if step.rest == 0 {
@@ -226,8 +252,15 @@ struct Part {
 }
 
 // Lends so many of the file's next bytes, or as many as there are.
-fn lend_part(t: Table, turn: Turn, buf: &mut [u8], path: &mut [i32], page: &mut [u8]) -> Part {
-    let got = inputs::fill(buf, b"try_gerber: standard input");
+fn lend_part(
+    rt: HostRuntime,
+    t: Table,
+    turn: Turn,
+    buf: &mut [u8],
+    path: &mut [i32],
+    page: &mut [u8],
+) -> Part {
+    let got = inputs::fill(rt.stdin(), rt.stderr(), buf, b"try_gerber: standard input");
     let count = got.count;
     if got.is_failed {
         return Part {
@@ -235,10 +268,11 @@ fn lend_part(t: Table, turn: Turn, buf: &mut [u8], path: &mut [i32], page: &mut 
             going: false,
         };
     }
-    let next = feed(t, turn, &buf[..count], path, page);
+    let next = feed(rt, t, turn, &buf[..count], path, page);
+    let going = next.going && count == buf.len();
     Part {
         turn: next,
-        going: next.going && count == buf.len(),
+        going: going,
     }
 }
 
@@ -256,16 +290,24 @@ fn part_of(left: u64, room: usize) -> usize
 }
 
 // Lends a chunk of so many bytes, in parts where it is longer than the buffer, up to the file's end.
-fn lend(t: Table, turn: Turn, count: u64, buf: &mut [u8], path: &mut [i32], page: &mut [u8]) -> Turn
+fn lend(
+    rt: HostRuntime,
+    t: Table,
+    turn: Turn,
+    count: u64,
+    buf: &mut [u8],
+    path: &mut [i32],
+    page: &mut [u8],
+) -> Turn
     requires { 0 < length buf.old }
 {
     let n = part_of(count, buf.len());
-    let mut part = lend_part(t, turn, &mut buf[..n], path, page);
+    let mut part = lend_part(rt, t, turn, &mut buf[..n], path, page);
     let mut left = count - n as u64;
     while 0 < left && part.going {
         let n = part_of(left, buf.len());
         let now = part.turn;
-        part = lend_part(t, now, &mut buf[..n], path, page);
+        part = lend_part(rt, t, now, &mut buf[..n], path, page);
         left -= n as u64;
     }
     part.turn
@@ -273,6 +315,7 @@ fn lend(t: Table, turn: Turn, count: u64, buf: &mut [u8], path: &mut [i32], page
 
 // The whole file: each chunk, and what is left.
 fn lend_all(
+    rt: HostRuntime,
     t: Table,
     turn: Turn,
     chunks: &[u64],
@@ -285,25 +328,25 @@ fn lend_all(
     let mut now = turn;
     let mut i = 0;
     while i < chunks.len() && now.going {
-        let next = lend(t, now, chunks[i], buf, path, page);
+        let next = lend(rt, t, now, chunks[i], buf, path, page);
         now = next;
         i += 1;
     }
     if !now.going {
         return now;
     }
-    lend(t, now, u64::MAX, buf, path, page)
+    lend(rt, t, now, u64::MAX, buf, path, page)
 }
 
-fn done(turn: Turn, page: &mut [u8]) -> Turn {
+fn done(rt: HostRuntime, turn: Turn, page: &mut [u8]) -> Turn {
     let reader = turn.reader;
     let was = turn.page;
-    let told = output::put(page, was, b"done\n");
+    let told = output::put(rt, page, was, b"done\n");
     turned(reader, turn.used, told, false)
 }
 
 // The file has ended, where nothing was refused before.
-fn finish(t: Table, turn: Turn, path: &mut [i32], page: &mut [u8]) -> Turn {
+fn finish(rt: HostRuntime, t: Table, turn: Turn, path: &mut [i32], page: &mut [u8]) -> Turn {
     if !turn.going {
         return turn;
     }
@@ -314,21 +357,29 @@ fn finish(t: Table, turn: Turn, path: &mut [i32], page: &mut [u8]) -> Turn {
     let given = fed.given;
     let next = turned(reader, turn.used, was, false);
     match given {
-        Given::More => faulty(next, b"finish says that there is more"),
-        Given::Stroke(_, _, _) => faulty(next, b"finish gives a stroke"),
-        Given::Done => done(next, page),
-        Given::Refused(number, place) => refused(t, next, number, place, b"", path, page),
+        Given::More => faulty(rt.stderr(), next, b"finish says that there is more"),
+        Given::Stroke(_, _, _) => faulty(rt.stderr(), next, b"finish gives a stroke"),
+        Given::Done => done(rt, next, page),
+        Given::Refused(number, place) => refused(rt, t, next, number, place, b"", path, page),
     }
 }
 
 // Reads standard input, a unit being so many nanometres, and tells what comes of it.
-pub fn run(t: Table, unit: u64, chunks: &[u64], buf: &mut [u8], path: &mut [i32], page: &mut [u8])
+pub fn run(
+    rt: HostRuntime,
+    t: Table,
+    unit: u64,
+    chunks: &[u64],
+    buf: &mut [u8],
+    path: &mut [i32],
+    page: &mut [u8],
+)
     requires { 0 < length buf.old }
 {
     let reader = gerber::start(unit);
     let start = turned(reader, 0, output::empty(), true);
-    let read = lend_all(t, start, chunks, buf, path, page);
-    let last = finish(t, read, path, page);
+    let read = lend_all(rt, t, start, chunks, buf, path, page);
+    let last = finish(rt, t, read, path, page);
     let p = last.page;
-    output::flush(page, p);
+    output::flush(rt, page, p);
 }

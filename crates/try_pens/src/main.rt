@@ -8,13 +8,16 @@
 
 mod answer;
 
-use libc::{STDIN_FILENO, STDOUT_FILENO};
-
 // Reads one setting and writes the answer to it. False where the input ends or a write fails.
-fn one() -> bool {
+fn one(rt: HostRuntime) -> bool {
     let mut bytes = [0u8; 24];
-    let n = io::read_full(STDIN_FILENO, &mut bytes);
-    if n < 24 {
+    let got = inputs::fill(
+        rt.stdin(),
+        rt.stderr(),
+        &mut bytes,
+        b"try_pens: standard input",
+    );
+    if got.count < 24 {
         return false;
     }
     let w = wire::number(&bytes, 0);
@@ -23,14 +26,15 @@ fn one() -> bool {
     let b = pen::build(w, p, q);
     let mut out = [0u8; answer::ANSWER_MAX];
     let n = answer::encode(b, &mut out);
-    io::write_all(STDOUT_FILENO, &out[..n])
+    tell::put(rt.stdout(), &out[..n])
 }
 
-// A proved loop has to end, and nothing says that the input does. So the loop counts its turns
-// down, from a number that no run uses up.
-fn main() {
-    let mut turns = u64::MAX;
-    while turns > 0 && one() {
-        turns -= 1;
+// A proved loop has to end, and nothing says that the input does. So the loop counts its turns, up to a
+// number that no run uses up.
+fn main(rt: HostRuntime) {
+    for _ in 0..u64::MAX {
+        if !one(rt) {
+            return;
+        }
     }
 }

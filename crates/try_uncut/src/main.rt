@@ -19,66 +19,72 @@ mod request;
 use request::{PATH_MAX, Request};
 
 // Reads as many bytes as there is room for.
-fn read(bytes: &mut [u8]) -> bool {
-    let got = inputs::fill(bytes, b"try_uncut: standard input");
+fn read(rt: HostRuntime, bytes: &mut [u8]) -> bool {
+    let got = inputs::fill(rt.stdin(), rt.stderr(), bytes, b"try_uncut: standard input");
     if got.is_failed {
         return false;
     }
     if got.count < bytes.len() {
-        return output::leave(b"the stream breaks off in a request");
+        return output::leave(rt.stderr(), b"the stream breaks off in a request");
     }
     true
 }
 
 // Asks how far the path's segment reaches, and writes what is answered.
-fn answer(r: Request, path: &[i32]) -> bool {
+fn answer(rt: HostRuntime, r: Request, path: &[i32]) -> bool {
     let defined = aperture::define(aperture::none(), r.defined, r.w, r.p, r.q);
     let table = defined.table;
     let reached = uncut::reach(table, r.number, path, r.row);
     let answer = reached.answer;
     let extent = reached.extent;
-    output::put_answer(answer) && output::put_extent(extent)
+    output::put_answer(rt, answer) && output::put_extent(rt, extent)
 }
 
 // Reads the path that follows a head, and answers the request.
-fn read_on(r: Request, bytes: &mut [u8], path: &mut [i32]) -> bool {
-    if !read(bytes) {
+fn read_on(rt: HostRuntime, r: Request, bytes: &mut [u8], path: &mut [i32]) -> bool {
+    if !read(rt, bytes) {
         return false;
     }
     wire::decode(bytes, path);
-    answer(r, path)
+    answer(rt, r, path)
 }
 
 // Answers the request of a head. False where no other can follow.
-fn obey(r: Request) -> bool {
+fn obey(rt: HostRuntime, r: Request) -> bool {
     if r.entries > PATH_MAX as u64 {
-        return output::leave(b"a request is too long for the tool");
+        return output::leave(rt.stderr(), b"a request is too long for the tool");
     }
     let n = r.entries as usize;
     let end = 4 * n;
     let mut bytes = [0u8; 4 * PATH_MAX];
     let mut path = [0i32; PATH_MAX];
-    read_on(r, &mut bytes[..end], &mut path[..n])
+    read_on(rt, r, &mut bytes[..end], &mut path[..n])
 }
 
 // Reads one request and answers it.
-fn one() -> bool {
+fn one(rt: HostRuntime) -> bool {
     let mut head = [0u8; request::HEAD];
-    let got = inputs::fill(&mut head, b"try_uncut: standard input");
+    let got = inputs::fill(
+        rt.stdin(),
+        rt.stderr(),
+        &mut head,
+        b"try_uncut: standard input",
+    );
     if got.is_failed || got.count == 0 {
         return false;
     }
     if got.count < request::HEAD {
-        return output::leave(b"the stream breaks off in a request");
+        return output::leave(rt.stderr(), b"the stream breaks off in a request");
     }
-    obey(request::decode(&head))
+    obey(rt, request::decode(&head))
 }
 
-// A proved loop has to end, and nothing says that the input does. So the loop counts its turns
-// down, from a number that no run uses up.
-fn main() {
-    let mut turns = u64::MAX;
-    while turns > 0 && one() {
-        turns -= 1;
+// A proved loop has to end, and nothing says that the input does. So the loop counts its turns, up to a
+// number that no run uses up.
+fn main(rt: HostRuntime) {
+    for _ in 0..u64::MAX {
+        if !one(rt) {
+            return;
+        }
     }
 }

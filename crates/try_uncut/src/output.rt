@@ -1,39 +1,39 @@
 // What the tool writes, and what it tells where it cannot go on.
 use checks::Answer;
 use extent::Extent;
-use libc::{STDERR_FILENO, STDOUT_FILENO};
+use std::io::Stderr;
 
 // Tells why the stream is left, and answers false: no request can follow.
-pub fn leave(why: &[u8]) -> bool {
-    io::write_all(STDERR_FILENO, b"try_uncut: ");
-    io::write_all(STDERR_FILENO, why);
-    io::write_all(STDERR_FILENO, b"\n");
+pub fn leave(told: Stderr, why: &[u8]) -> bool {
+    tell::say(told, b"try_uncut: ");
+    tell::say(told, why);
+    tell::say(told, b"\n");
     false
 }
 
 // Whether the eight bytes of a number are written.
-fn put(bytes: [u8; 8]) -> bool {
-    if io::write_all(STDOUT_FILENO, &bytes) {
+fn put(rt: HostRuntime, bytes: [u8; 8]) -> bool {
+    if tell::put(rt.stdout(), &bytes) {
         return true;
     }
-    leave(b"an answer cannot be written")
+    leave(rt.stderr(), b"an answer cannot be written")
 }
 
-fn put_number(n: u64) -> bool {
-    put(wire::number_bytes(n))
+fn put_number(rt: HostRuntime, n: u64) -> bool {
+    put(rt, wire::number_bytes(n))
 }
 
-fn put_signed(z: i64) -> bool {
-    put(wire::eight(z))
+fn put_signed(rt: HostRuntime, z: i64) -> bool {
+    put(rt, wire::eight(z))
 }
 
-pub fn put_answer(a: Answer) -> bool {
-    put_number(a.refusal) && put_number(a.place) && put_number(a.count)
+pub fn put_answer(rt: HostRuntime, a: Answer) -> bool {
+    put_number(rt, a.refusal) && put_number(rt, a.place) && put_number(rt, a.count)
 }
 
-pub fn put_extent(e: Extent) -> bool {
+pub fn put_extent(rt: HostRuntime, e: Extent) -> bool {
     let Extent::Columns(first, last) = e else {
-        return put_number(0) && put_number(0) && put_number(0);
+        return put_number(rt, 0) && put_number(rt, 0) && put_number(rt, 0);
     };
-    put_number(1) && put_signed(first) && put_signed(last)
+    put_number(rt, 1) && put_signed(rt, first) && put_signed(rt, last)
 }
