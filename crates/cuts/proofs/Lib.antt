@@ -4,10 +4,12 @@
 --   Touches   what the cuts come to where none of them has a column, or one has, or two
 --   Between   the bounds of the cuts: no column outside them is black
 --   Laid      the cuts laid over bytes, one after the other
+--   Passed    the loops over the segments, when some are done
 --   Together  a row by its cuts, for the callers
 pub mod Raster
 pub mod Segments
 pub mod Touches
 pub mod Between
 pub mod Laid
+pub mod Passed
 pub mod Together

@@ -10,7 +10,7 @@ use extent::Extent;
 use integers::{max, min};
 
 // The columns of one segment within the raster, both included, or none.
-#[derive(Drop)]
+#[derive(Clone, Copy)]
 pub enum Cut {
     Nothing,
     Columns(usize, usize),

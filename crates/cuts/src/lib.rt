@@ -62,8 +62,8 @@ pub fn lay_over<'a>(
     columns: usize,
     row: u64,
 ) -> Bounds
-    ensures { ◌≡◌ {A = Laid} (record { bytes = bytes.exit.now; bounds = result })
-        (laid (corners count xs.now ys.now) (path_points path.now) columns row bytes.entry.now) }
+    ensures { ◌≡◌ {A = Laid} (record { bytes = bytes.new; bounds = result })
+        (laid (corners count xs.now ys.now) (path_points path.now) columns row bytes.old) }
 {
     if !serves(columns, bytes.len()) {
         return Bounds { first: 0, end: 0 };
