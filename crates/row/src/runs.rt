@@ -16,7 +16,7 @@ ghost use Rattle.cuts.specs.Cuts.{Bounded};
 
 // What the pass knows after a column: whether the column is black, and how many runs there are so
 // far.
-#[derive(Drop)]
+#[derive(Clone, Copy)]
 pub struct Pass {
     pub black: bool,
     pub count: usize,
