@@ -11,6 +11,6 @@ differing_from a b first n = count_below (λ j. apart a b (first + j)) n
 abbrev pub has_word : List ℕ → ℕ → Bool
 has_word s at = leb (at + 8) (length s)
 
--- what `same_word_lem` answers: both have eight bytes from `at` on, and they are the same
+-- what `same_word` answers: both have eight bytes from `at` on, and they are the same
 abbrev pub same_word : List ℕ → List ℕ → ℕ → Bool
 same_word a b at = has_word a at && (has_word b at && eqb (number_at a at) (number_at b at))
