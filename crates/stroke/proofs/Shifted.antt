@@ -3,7 +3,7 @@
 use mathlib.Core.Path.{◌≡◌, sym, ap₂, subst}
 use mathlib.Core.Logic.Iff
 use mathlib.Core.Logic.{◌↔◌}
-use mathlib.Core.List.{List, map}
+use mathlib.Core.List.{List}
 use native.Mathlib.Omega.{arith}
 use lib.IntN.{ℤ, pos, ◌+ℤ◌, ◌-ℤ◌, ◌*ℤ◌}
 use Rattle.integers.specs.Compare.{max_z}
@@ -11,7 +11,7 @@ use Rattle.integers.proofs.Ring.{ring, reify}
 use Rattle.integers.proofs.Tests.{max_l, max_r}
 use Rattle.plane.specs.Point.{Pt, pt}
 use Rattle.stroke.specs.Sweep.{Seg, InPen, Sweep}
-use Rattle.stroke.specs.Beside.{larger, larger_seg, beside, SweptBeside}
+use Rattle.stroke.specs.Beside.{larger_seg, beside, SweptBeside}
 use Rattle.stroke.specs.Theorems.{shifted, shifted_seg, BlackShifted}
 use Rattle.stroke.proofs.Beside.{black_beside}
 

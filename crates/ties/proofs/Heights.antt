@@ -1,5 +1,5 @@
 -- The rule of heights: by whether flat tops are kept, it is one order or the other, and each has the laws.
-use mathlib.Core.Path.{◌≡◌, refl, sym, subst, ◌∙◌}
+use mathlib.Core.Path.{◌≡◌, refl, sym, ◌∙◌}
 use mathlib.Core.Logic.{◌↔◌}
 use mathlib.Core.Bool.{Bool, true, false, not, cond}
 use native.Mathlib.Omega.{arith}
@@ -85,4 +85,5 @@ unfolding below kept
 below_le h y = refl
 
 pub below_says : BelowSays
-below_says h y = subst (λ (t : Bool). (t ≡ true) ↔ (h ≼ y)) (sym (below_le h y)) (le_iff h y)
+unfolding below kept
+below_says h y = le_iff h y

@@ -1,7 +1,7 @@
 -- The rule of kept sides as a fact, its laws, and what it says of a flat side.
 use mathlib.Core.Path.{◌≡◌, refl}
 use mathlib.Core.Logic.{inl, inr}
-use mathlib.Core.Bool.{not}
+use mathlib.Core.Bool.{true, not}
 use Prim.Native.Nat.{zero, suc}
 use lib.Dec.{leb-zero, leb-suc-suc}
 use lib.IntN.{ℤ, pos, negsuc, neg_ℤ, ◌*ℤ◌}
@@ -38,8 +38,12 @@ times : (t a b : ℤ) → pos 0 ≺ t → kept (t *ℤ a) (t *ℤ b) ≡ kept a 
 unfolding kept
 times t a b h = rw (same_lt (times_above t a h), same_lt (times_below t a h), same_lt (times_above t b h))
 
+rightward : (a b : ℤ) → pos 0 ≺ a → kept a b ≡ true
+unfolding kept
+rightward a b h = rw ((lt_iff (pos 0) a).1 h)
+
 pub kept_laws : KeptLaws
-kept_laws = record { one = one; rightward = λ a b h. (kept_says a b).1 (inl h); times = times }
+kept_laws = record { one = one; rightward = rightward; times = times }
 
 -- of a flat side the part upwards decides
 pub kept_flat : (b : ℤ) → kept (pos 0) b ≡ lt_z (pos 0) b
