@@ -18,6 +18,7 @@ use Rattle.integers.proofs.Bound.{abs_le, abs_pos, abs_add, abs_sub, abs_mul, ab
 use Rattle.edge.specs.declared.Edge.{Edge}
 use Rattle.edge.specs.Edge.{fair, numerator, placed, raised}
 use Rattle.edge.proofs.Bounds.{Small, small_fair, test_bound, between_bound}
+use Rattle.edge.proofs.PerRow.{slope, slope_rest}
 use Rattle.edge.proofs.Cases.{kept, over, raised_kept, raised_over, numbers, placed_near}
 pub use Rattle.edge.proofs.Cases.{Near}
 
@@ -155,15 +156,6 @@ left_low = ring 2 _ (λ ρ. simp (reify, ρ) (omega arith))
 left_high : (p n by : ℤ) → n ≺ p +ℤ by → n -ℤ p ≺ by
 left_high = ring 3 _ (simp reify (omega arith))
 
-slope : (dx dy s : ℤ) → (pos 16 *ℤ dy) *ℤ s +ℤ pos 16 *ℤ (dx -ℤ dy *ℤ s) ≡ pos 16 *ℤ dx
-slope = ring 3 _ (λ ρ. simp (reify, ρ) (omega arith))
-
-slope_low : (dx dy s : ℤ) → dy *ℤ s ≼ dx → pos 0 ≼ pos 16 *ℤ (dx -ℤ dy *ℤ s)
-slope_low = ring 3 _ (λ ρ. simp (reify, ρ) (omega arith))
-
-slope_high : (dx dy s : ℤ) → dx ≺ dy *ℤ s +ℤ dy → pos 16 *ℤ (dx -ℤ dy *ℤ s) ≺ pos 16 *ℤ dy
-slope_high = ring 3 _ (λ ρ. simp (reify, ρ) (omega arith))
-
 numbers_carry : (px py qx qy h : ℤ) → py ≺ qy → Carries px py qx qy h (numbers px py qx qy h)
 numbers_carry px py qx qy h l =
     let dx = qx -ℤ px in
@@ -179,8 +171,8 @@ numbers_carry px py qx qy h l =
       rest_low = left_low (by *ℤ q) n (floor_div_lo n by (sixteen dy p));
       rest_high = left_high (by *ℤ q) n by (floor_div_hi n by (sixteen dy p));
       up = slope dx dy s;
-      more_low = slope_low dx dy s (floor_div_lo dx dy p);
-      more_high = slope_high dx dy s (floor_div_hi dx dy p);
+      more_low = (slope_rest dx dy s (floor_div_lo dx dy p) (floor_div_hi dx dy p)).0;
+      more_high = (slope_rest dx dy s (floor_div_lo dx dy p) (floor_div_hi dx dy p)).1;
     }
 
 pub placed_carries : (px py qx qy h : ℤ) → Near px py qx qy h → py ≺ qy → Carries px py qx qy h (placed px py qx qy h)

@@ -1,5 +1,5 @@
 -- The numbers of an edge, step by step: within reach each fits.
-use Rattle.std.proofs.Common.{◌≡◌, sym, ◌∙◌, Bool, ◌+◌, ◌*◌, ℤ, pos, ◌-ℤ◌, ◌*ℤ◌, w64, FitsSigned, to_z, of_z}
+use Rattle.std.proofs.Common.{◌≡◌, sym, ◌∙◌, Bool, true, ◌+◌, ◌*◌, ℤ, pos, ◌-ℤ◌, ◌*ℤ◌, w64, FitsSigned, to_z, of_z}
 use Rattle.integers.specs.Floor.{floor_div}
 use Rattle.integers.proofs.Machine.{Is, known, num, add, add_fits, sub, sub_fits, mul, mul_fits, floor, par}
 use Rattle.integers.proofs.Words.{bits, ◌⊕◌, ◌⊖◌, ◌⊗◌}
@@ -13,8 +13,12 @@ tested : {px py qx qy h : ℤ} → FitsSigned w64 px → FitsSigned w64 py → F
     t ≡ all_near (to_z w64 (of_z w64 px)) (to_z w64 (of_z w64 py)) (to_z w64 (of_z w64 qx)) (to_z w64 (of_z w64 qy)) (to_z w64 (of_z w64 h)) → t ≡ all_near px py qx qy h
 tested px py qx qy h e = rw ((par {w = w64} px).reads, (par {w = w64} py).reads, (par {w = w64} qx).reads, (par {w = w64} qy).reads, (par {w = w64} h).reads) at e
 
+reached : {px py qx qy h : ℤ} → FitsSigned w64 px → FitsSigned w64 py → FitsSigned w64 qx → FitsSigned w64 qy → FitsSigned w64 h → {t : Bool} →
+    t ≡ all_near (to_z w64 (of_z w64 px)) (to_z w64 (of_z w64 py)) (to_z w64 (of_z w64 qx)) (to_z w64 (of_z w64 qy)) (to_z w64 (of_z w64 h)) → t ≡ true → Near px py qx qy h
+reached {px} {py} {qx} {qy} {h} a b c d e f t = all_near_lem px py qx qy h (sym (tested a b c d e f) ∙ t)
+
 -- ---- where all five are within reach
-module _ (px' py' qx' qy' h' : ℤ) (reach : Near px' py' qx' qy' h') where
+module _ {px' py' qx' qy' h' : ℤ} (reach : Near px' py' qx' qy' h') where
   px : Is w64 px' (bits px') 263168
   px = known (test_bound 263168 px' reach.px_near) tt
 
@@ -62,95 +66,82 @@ returns-then-not-all_near c =
 
 pub overflow_sub-dx : goal.overflow_sub-dx
 overflow_sub-dx c =
-    let a = c.args in
     let f = c.ranges in
-    let n = all_near_lem a.px a.py a.qx a.qy a.h (sym (tested f.px f.py f.qx f.qy f.h c.all_near.ensures) ∙ c.if-not-all_near.false) in
-    sub_fits (qx a.px a.py a.qx a.qy a.h n) (px a.px a.py a.qx a.qy a.h n) tt
+    let n = reached f.px f.py f.qx f.qy f.h c.all_near.ensures c.if-not-all_near.false in
+    sub_fits (qx n) (px n) tt
 
 pub overflow_sub-dy : goal.overflow_sub-dy
 overflow_sub-dy c =
-    let a = c.args in
     let f = c.ranges in
-    let n = all_near_lem a.px a.py a.qx a.qy a.h (sym (tested f.px f.py f.qx f.qy f.h c.all_near.ensures) ∙ c.if-not-all_near.false) in
-    sub_fits (qy a.px a.py a.qx a.qy a.h n) (py a.px a.py a.qx a.qy a.h n) tt
+    let n = reached f.px f.py f.qx f.qy f.h c.all_near.ensures c.if-not-all_near.false in
+    sub_fits (qy n) (py n) tt
 
 pub overflow_mul-by : goal.overflow_mul-by
 overflow_mul-by c =
-    let a = c.args in
     let f = c.ranges in
-    let n = all_near_lem a.px a.py a.qx a.qy a.h (sym (tested f.px f.py f.qx f.qy f.h c.all_near.ensures) ∙ c.if-not-all_near.false) in
-    mul_fits (num (pos 16) tt) (dy a.px a.py a.qx a.qy a.h n) tt
+    let n = reached f.px f.py f.qx f.qy f.h c.all_near.ensures c.if-not-all_near.false in
+    mul_fits (num (pos 16) tt) (dy n) tt
 
 pub overflow_mul-num : goal.overflow_mul-num
 overflow_mul-num c =
-    let a = c.args in
     let f = c.ranges in
-    let n = all_near_lem a.px a.py a.qx a.qy a.h (sym (tested f.px f.py f.qx f.qy f.h c.all_near.ensures) ∙ c.if-not-all_near.false) in
-    mul_fits (px a.px a.py a.qx a.qy a.h n) (dy a.px a.py a.qx a.qy a.h n) tt
+    let n = reached f.px f.py f.qx f.qy f.h c.all_near.ensures c.if-not-all_near.false in
+    mul_fits (px n) (dy n) tt
 
 pub overflow_sub-num : goal.overflow_sub-num
 overflow_sub-num c =
-    let a = c.args in
     let f = c.ranges in
-    let n = all_near_lem a.px a.py a.qx a.qy a.h (sym (tested f.px f.py f.qx f.qy f.h c.all_near.ensures) ∙ c.if-not-all_near.false) in
-    sub_fits (h a.px a.py a.qx a.qy a.h n) (py a.px a.py a.qx a.qy a.h n) tt
+    let n = reached f.px f.py f.qx f.qy f.h c.all_near.ensures c.if-not-all_near.false in
+    sub_fits (h n) (py n) tt
 
 pub overflow_mul-num-2 : goal.overflow_mul-num-2
 overflow_mul-num-2 c =
-    let a = c.args in
     let f = c.ranges in
-    let n = all_near_lem a.px a.py a.qx a.qy a.h (sym (tested f.px f.py f.qx f.qy f.h c.all_near.ensures) ∙ c.if-not-all_near.false) in
-    mul_fits (up a.px a.py a.qx a.qy a.h n) (dx a.px a.py a.qx a.qy a.h n) tt
+    let n = reached f.px f.py f.qx f.qy f.h c.all_near.ensures c.if-not-all_near.false in
+    mul_fits (up n) (dx n) tt
 
 pub overflow_add-num : goal.overflow_add-num
 overflow_add-num c =
-    let a = c.args in
     let f = c.ranges in
-    let n = all_near_lem a.px a.py a.qx a.qy a.h (sym (tested f.px f.py f.qx f.qy f.h c.all_near.ensures) ∙ c.if-not-all_near.false) in
-    add_fits (mul (px a.px a.py a.qx a.qy a.h n) (dy a.px a.py a.qx a.qy a.h n) tt) (mul (up a.px a.py a.qx a.qy a.h n) (dx a.px a.py a.qx a.qy a.h n) tt) tt
+    let n = reached f.px f.py f.qx f.qy f.h c.all_near.ensures c.if-not-all_near.false in
+    add_fits (mul (px n) (dy n) tt) (mul (up n) (dx n) tt) tt
 
 pub overflow_mul-result : goal.overflow_mul-result
 overflow_mul-result c =
-    let a = c.args in
     let f = c.ranges in
-    let n = all_near_lem a.px a.py a.qx a.qy a.h (sym (tested f.px f.py f.qx f.qy f.h c.all_near.ensures) ∙ c.if-not-all_near.false) in
-    mul_fits (by a.px a.py a.qx a.qy a.h n) (column a.px a.py a.qx a.qy a.h n c.floor_div-column.ensures) tt
+    let n = reached f.px f.py f.qx f.qy f.h c.all_near.ensures c.if-not-all_near.false in
+    mul_fits (by n) (column n c.floor_div-column.ensures) tt
 
 pub overflow_sub-result : goal.overflow_sub-result
 overflow_sub-result c =
-    let a = c.args in
     let f = c.ranges in
-    let n = all_near_lem a.px a.py a.qx a.qy a.h (sym (tested f.px f.py f.qx f.qy f.h c.all_near.ensures) ∙ c.if-not-all_near.false) in
-    sub_fits (line a.px a.py a.qx a.qy a.h n) (mul (by a.px a.py a.qx a.qy a.h n) (column a.px a.py a.qx a.qy a.h n c.floor_div-column.ensures) tt) tt
+    let n = reached f.px f.py f.qx f.qy f.h c.all_near.ensures c.if-not-all_near.false in
+    sub_fits (line n) (mul (by n) (column n c.floor_div-column.ensures) tt) tt
 
 pub overflow_mul-result-2 : goal.overflow_mul-result-2
 overflow_mul-result-2 c =
-    let a = c.args in
     let f = c.ranges in
-    let n = all_near_lem a.px a.py a.qx a.qy a.h (sym (tested f.px f.py f.qx f.qy f.h c.all_near.ensures) ∙ c.if-not-all_near.false) in
-    mul_fits (dy a.px a.py a.qx a.qy a.h n) (step a.px a.py a.qx a.qy a.h n c.slope-step.ensures) tt
+    let n = reached f.px f.py f.qx f.qy f.h c.all_near.ensures c.if-not-all_near.false in
+    mul_fits (dy n) (step n c.slope-step.ensures) tt
 
 pub overflow_sub-result-2 : goal.overflow_sub-result-2
 overflow_sub-result-2 c =
-    let a = c.args in
     let f = c.ranges in
-    let n = all_near_lem a.px a.py a.qx a.qy a.h (sym (tested f.px f.py f.qx f.qy f.h c.all_near.ensures) ∙ c.if-not-all_near.false) in
-    sub_fits (dx a.px a.py a.qx a.qy a.h n) (mul (dy a.px a.py a.qx a.qy a.h n) (step a.px a.py a.qx a.qy a.h n c.slope-step.ensures) tt) tt
+    let n = reached f.px f.py f.qx f.qy f.h c.all_near.ensures c.if-not-all_near.false in
+    sub_fits (dx n) (mul (dy n) (step n c.slope-step.ensures) tt) tt
 
 pub overflow_mul-result-3 : goal.overflow_mul-result-3
 overflow_mul-result-3 c =
-    let a = c.args in
     let f = c.ranges in
-    let n = all_near_lem a.px a.py a.qx a.qy a.h (sym (tested f.px f.py f.qx f.qy f.h c.all_near.ensures) ∙ c.if-not-all_near.false) in
-    mul_fits (num (pos 16) tt) (sub (dx a.px a.py a.qx a.qy a.h n) (mul (dy a.px a.py a.qx a.qy a.h n) (step a.px a.py a.qx a.qy a.h n c.slope-step.ensures) tt) tt) tt
+    let n = reached f.px f.py f.qx f.qy f.h c.all_near.ensures c.if-not-all_near.false in
+    mul_fits (num (pos 16) tt) (sub (dx n) (mul (dy n) (step n c.slope-step.ensures) tt) tt) tt
 
 pub returns : goal.returns
 returns c =
-    let a = c.args in
     let f = c.ranges in
-    let n = all_near_lem a.px a.py a.qx a.qy a.h (sym (tested f.px f.py f.qx f.qy f.h c.all_near.ensures) ∙ c.if-not-all_near.false) in
-    let d = column a.px a.py a.qx a.qy a.h n c.floor_div-column.ensures in
-    let s = step a.px a.py a.qx a.qy a.h n c.slope-step.ensures in
-    let b = by a.px a.py a.qx a.qy a.h n in
-    rw ((sub (line a.px a.py a.qx a.qy a.h n) (mul b d tt) tt).reads, (mul (num (pos 16) tt) (sub (dx a.px a.py a.qx a.qy a.h n) (mul (dy a.px a.py a.qx a.qy a.h n) s tt) tt) tt).reads, d.reads, s.reads, b.reads)
-    (sym (placed_near a.px a.py a.qx a.qy a.h n))
+    let n = reached f.px f.py f.qx f.qy f.h c.all_near.ensures c.if-not-all_near.false in
+    let d = column n c.floor_div-column.ensures in
+    let s = step n c.slope-step.ensures in
+    let b = by n in
+    rw ((sub (line n) (mul b d tt) tt).reads, (mul (num (pos 16) tt) (sub (dx n) (mul (dy n) s tt) tt) tt).reads, d.reads, s.reads, b.reads)
+    (sym (placed_near c.args.px c.args.py c.args.qx c.args.qy c.args.h n))
