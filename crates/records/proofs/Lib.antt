@@ -4,8 +4,6 @@
 --   Cases    a plain call's checks and runs, whatever list it is lent; it has at most 4,096 runs
 --   Room     the numbers that are asked of the plain call, and that its answer is at the front of their list
 --   Plain    the records written from that answer are those that the call promises
---   Slot     a local array of numbers, as a walk by hand needs it
---   Walk     steps that both walks by hand repeat
 --   Written  what the loop of `write` leaves after each turn, and that it is the first records of a plain list
 pub mod Theorems
 pub mod Numbers
@@ -13,5 +11,3 @@ pub mod Cases
 pub mod Room
 pub mod Plain
 pub mod Written
-pub mod Slot
-pub mod Walk
