@@ -1,6 +1,6 @@
 -- A band by its rows: its top row is the band of one row, which is that row packed and laid over, and the others are the band below it.
 use Prim.Native.Nat.{ℕ, zero, suc, ◌+◌, ◌-◌, ◌*◌, ◌/◌, ◌≤◌, ◌<◌}
-use native.Mathlib.Nat.{one_mul, div-eq_of_lt, mod-eq_of_lt}
+use native.Mathlib.Nat.{one-mul, div-eq_of_lt, mod-eq_of_lt}
 use native.Mathlib.Numerals.{add-one}
 use native.Mathlib.Omega.{arith}
 use mathlib.Core.Path.{◌≡◌, sym, ap, ap₂, ◌∙◌}
@@ -43,5 +43,5 @@ module _ (black : ℕ → ℕ → Bool) (columns stride : ℕ) where
       ap (λ (m : ℕ). blackened (band_black black columns first m stride) b) (sym (add-one n))
       ∙ bands_cut black columns first n 1 stride h b
       ∙ ap₂ ◌++◌
-      (ap (λ (s : ℕ). blackened (band_black black columns (first + n) 1 stride) (take s b)) (one_mul stride) ∙ one_row (first + n) (take stride b) (omega (arith, length-take stride b)))
-      (ap (λ (s : ℕ). blackened (band_black black columns first n stride) (drop s b)) (one_mul stride) ∙ rows_laid first n (drop stride b) h)
+      (ap (λ (s : ℕ). blackened (band_black black columns (first + n) 1 stride) (take s b)) (one-mul stride) ∙ one_row (first + n) (take stride b) (omega (arith, length-take stride b)))
+      (ap (λ (s : ℕ). blackened (band_black black columns first n stride) (drop s b)) (one-mul stride) ∙ rows_laid first n (drop stride b) h)

@@ -19,7 +19,7 @@ mod segment;
 mod tiles;
 
 // The raster's columns, the band's highest row, which comes first, and how many bytes a row has.
-#[derive(Drop)]
+#[derive(Clone, Copy)]
 pub struct Shape {
     pub columns: u16,
     pub top: u16,

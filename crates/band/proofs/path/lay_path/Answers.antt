@@ -1,0 +1,126 @@
+-- The segments passed are laid over the bytes, and each turn lays one more.
+use mathlib.Core.List.{List}
+use mathlib.Core.Bool.{true}
+use mathlib.Core.Path.{◌≡◌, refl, sym, ap, ◌∙◌}
+use Prim.Native.Nat.{ℕ, suc, ◌+◌, ◌*◌, ◌-◌, ◌^◌, ◌≤◌, ◌<◌}
+use native.Mathlib.Numerals.{add-one}
+use native.Mathlib.Omega.{arith}
+use mir.Syntax.{w32, w64}
+use mir.Val.{Fits, to_z, of_z, hbits}
+use lib.Signed.{mag}
+use lib.IntN.{ℤ, pos}
+use lib.ListN.{length, get_or}
+use lib.Seq.{take_all}
+use borrow.Author.Rules.{scaled_Fits}
+use Rattle.integers.proofs.Machine.{read_back}
+use Rattle.limits.specs.Sizes.{in_range}
+use Rattle.plane.specs.Point.{Pt, corners}
+use Rattle.bits.specs.Bits.{blackened}
+use Rattle.stroke.specs.Sweep.{Seg, segments, path_points}
+use Rattle.stroke.specs.Runs.{any}
+use Rattle.extent.specs.Answer.{seg}
+use Rattle.segments.specs.Ends.{EndsAt}
+use Rattle.segments.proofs.Ends.{start_in}
+use Rattle.band.specs.declared.Shape.{Shape}
+use Rattle.band.specs.Rows.{shaped, segment_black, path_black}
+use Rattle.band.proofs.Layers.{laid_none, laid_both, any_next}
+use Rattle.band.proofs.path.lay_path.Invariants.{some_black, Done}
+use Rattle.band.proofs.path.lay_path.Goals as goal
+use Rattle.band.proofs.path.lay_path.Goals.{After-end_of-b, At-loop-k, In-loop-k}
+
+-- what stands past the last segment
+abbrev past : Seg
+past = seg (pos 0) (pos 0) (pos 0) (pos 0)
+
+-- one segment more
+done_step : {cs : List Pt} {l : List Seg} {s : Shape} {from to n : ℕ} {bytes₀ bytes bytes' : List ℕ} {k : ℕ} → Done cs l s from to n bytes₀ bytes k → suc k ≤ n →
+    length bytes' ≡ length bytes → bytes' ≡ blackened (shaped (segment_black cs (get_or l k past)) s from to) bytes → Done cs l s from to n bytes₀ bytes' (suc k)
+done_step {cs} {l} {s} {from} {to} {bytes₀ = bytes₀} {k = k} d h e f = record {
+  within = h;
+  all = d.all;
+  as_long = e ∙ d.as_long;
+  laid = f ∙ laid_both (some_black cs l k) (segment_black cs (get_or l k past)) (some_black cs l (suc k)) s from to bytes₀
+      (λ j x. any_next (λ g. segment_black cs g j x) l k past (omega (arith, d.all))) d.laid;
+}
+
+-- after the last all are
+done_end : {cs : List Pt} (path : List ℤ) {s : Shape} {from to n : ℕ} {bytes₀ bytes : List ℕ} {k : ℕ} → Done cs (segments (path_points path)) s from to n bytes₀ bytes k → n ≤ k →
+    bytes ≡ blackened (shaped (path_black cs path) s from to) bytes₀
+done_end {cs} path {s} {from} {to} {bytes₀ = bytes₀} {k = k} d h =
+    let l = segments (path_points path) in
+    d.laid ∙ ap (λ (m : List Seg). blackened (shaped (λ j x. any (λ g. segment_black cs g j x) m) s from to) bytes₀) (take_all k l (omega (arith, d.all)))
+
+-- k is one of the path's segments
+one_of : (c : In-loop-k) → c.loop-k.k < length (segments (path_points c.args.path.now))
+one_of c = omega (arith, c.loop-k.invariant.all, c.loop-k-test.true)
+
+start_of_lem : (c : In-loop-k) → 2 * c.loop-k.k + 1 < length c.args.path.now
+start_of_lem c = start_in c.args.path.now c.loop-k.k (one_of c)
+
+ends : (c : After-end_of-b) → EndsAt c.args.path.now c.loop-k.k c.end_of-b.result
+ends c = c.end_of-b.ensures (one_of c.before)
+
+-- an entry that was read
+in_range_lem : (z : ℤ) → mag z < 2 ^ hbits w32 → in_range z ≡ true → in_range (to_z w32 (of_z w32 z)) ≡ true
+in_range_lem z h e = ap in_range (read_back w32 h) ∙ e
+
+same_segment : {ax ay bx by ax' ay' bx' by' : ℤ} → ax ≡ ax' → ay ≡ ay' → bx ≡ bx' → by ≡ by' → seg ax ay bx by ≡ seg ax' ay' bx' by'
+same_segment a b c d = cc
+
+pub loop-k-init : goal.loop-k-init
+loop-k-init c =
+    let a = c.args in
+    record {
+      within = omega arith;
+      all = c.count-n.ensures;
+      as_long = refl;
+      laid = laid_none (some_black (corners a.count a.xs.now a.ys.now) (segments (path_points a.path.now)) 0) a.s a.from a.to a.bytes.now (λ j x _ _. refl);
+    }
+
+pub overflow_mul-a : goal.overflow_mul-a
+overflow_mul-a c = omega (arith, start_of_lem c)
+
+pub bounds-path-a : goal.bounds-path-a
+bounds-path-a c = omega (arith, start_of_lem (goal.at.bounds-path-a c).In-loop-k)
+
+pub overflow_add-a : goal.overflow_add-a
+overflow_add-a c = omega (arith, start_of_lem (goal.at.overflow_add-a c).In-loop-k)
+
+pub bounds-path-a-in-loop-k : goal.bounds-path-a-in-loop-k
+bounds-path-a-in-loop-k c = start_of_lem (goal.at.bounds-path-a-in-loop-k c).In-loop-k
+
+pub bounds-path-b : goal.bounds-path-b
+bounds-path-b c = omega (arith, (ends (goal.at.bounds-path-b c).After-end_of-b).held)
+
+pub overflow_add-b : goal.overflow_add-b
+overflow_add-b c = omega (arith, (ends (goal.at.overflow_add-b c).After-end_of-b).held)
+
+pub bounds-path-b-in-loop-k : goal.bounds-path-b-in-loop-k
+bounds-path-b-in-loop-k c = (ends (goal.at.bounds-path-b-in-loop-k c).After-end_of-b).held
+
+pub lay_segment-requires : goal.lay_segment-requires
+lay_segment-requires c =
+    let ranged = c.requires.ranged in
+    let i = ends (goal.at.lay_segment-requires c).After-end_of-b in
+    let p = c.args.path.now in
+    let k = c.loop-k.k in
+    let x = in_range_lem (get_or p (2 * k) (pos 0)) c.lay_segment-arg-in-loop-k-1.given (ranged (2 * k) (omega (arith, start_of_lem (goal.at.lay_segment-requires c).In-loop-k))) in
+    let y = in_range_lem (get_or p (2 * k + 1) (pos 0)) c.lay_segment-arg-in-loop-k-2-1.given (ranged (2 * k + 1) (start_of_lem (goal.at.lay_segment-requires c).In-loop-k)) in
+    let b = c.end_of-b.result in
+    let x' = in_range_lem (get_or p b (pos 0)) c.lay_segment-arg-in-loop-k-3-1.given (ranged b (omega (arith, i.held))) in
+    let y' = in_range_lem (get_or p (b + 1) (pos 0)) c.lay_segment-arg-in-loop-k-4-1.given (ranged (b + 1) i.held) in
+    record { pen = c.requires.pen; ranged = (x, y, x', y'); fits = c.requires.fits; part = c.requires.part }
+
+pub loop-k-preserved : goal.loop-k-preserved
+loop-k-preserved c =
+    let a = c.args in
+    let cs = corners a.count a.xs.now a.ys.now in
+    let g = same_segment (read_back w32 c.lay_segment-arg-in-loop-k-1.given) (read_back w32 c.lay_segment-arg-in-loop-k-2-1.given) (read_back w32 c.lay_segment-arg-in-loop-k-3-1.given) (read_back w32 c.lay_segment-arg-in-loop-k-4-1.given) in
+    rw add-one (done_step c.loop-k.invariant c.loop-k-test.true c.lay_segment.auto.bytes
+    (c.lay_segment.ensures ∙ ap (λ (g : Seg). blackened (shaped (segment_black cs g) a.s a.from a.to) c.loop-k.bytes) (g ∙ sym ((ends (goal.at.loop-k-preserved c).After-end_of-b).segment past))))
+
+pub shape_of-bytes : goal.shape_of-bytes
+shape_of-bytes c = c.loop-k.invariant.as_long
+
+pub returns : goal.returns
+returns c = done_end c.args.path.now c.loop-k.invariant c.loop-k-test.false

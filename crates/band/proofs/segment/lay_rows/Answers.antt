@@ -1,0 +1,59 @@
+-- The rows so far are laid over the bytes, and the flanks have come to the last of them.
+use Prim.Native.Nat.{ℕ, ◌+◌, ◌-◌, ◌*◌}
+use native.Mathlib.Nat.{le_refl}
+use native.Mathlib.Omega.{arith}
+use mathlib.Core.Path.{◌≡◌, refl, sym, ap, ap₂, ◌∙◌}
+use lib.IntN.{ℤ}
+use mir.Syntax.{w64}
+use mir.Val.{to_z, of_z}
+use mir.Facts.{to_z-of_z}
+use Rattle.bits.specs.Bits.{span, blackened}
+use Rattle.flanks.specs.Flanks.{count_to}
+use Rattle.band.specs.Rows.{shaped, risen_by, flank_black}
+use Rattle.band.proofs.Layers.{part_of}
+use Rattle.band.proofs.Carried.{risen_none, risen_next, rows_at_first, one_row_more}
+use Rattle.band.proofs.segment.lay_rows.Goals as goal
+
+pub loop-row-init : goal.loop-row-init
+loop-row-init c =
+    let a = c.args in
+    record {
+      after = omega arith;
+      before = c.requires.part.ordered;
+      as_long = refl;
+      carried = sym (ap (risen_by a.count a.xs.now a.ys.now a.begun a.from) (omega arith) ∙ risen_none a.count a.xs.now a.ys.now a.begun a.from);
+      laid = rows_at_first a.count a.xs.now a.ys.now a.begun a.from a.s a.bytes.now;
+    }
+
+pub lay_row-requires : goal.lay_row-requires
+lay_row-requires c =
+    let part = c.requires.part in
+    record { held = omega (arith, c.requires.part.inside, c.loop-row-test.true); fits = (part_of c.loop-row.row _ part c.loop-row.invariant.after c.loop-row.invariant.before (le_refl _)).placed }
+
+pub loop-row-preserved : goal.loop-row-preserved
+loop-row-preserved c =
+    let a = c.args in
+    let row = c.loop-row.row in
+    let l : to_z w64 (of_z w64 c.rise-f.result.left.edge.column) ≡ c.rise-f.result.left.edge.column = to_z-of_z {w = w64} (record { sfits = c.struct_told-1.given.1.1.1.0.1.1.0.1.1.0.1 }) in
+    let r : to_z w64 (of_z w64 c.rise-f.result.right.edge.column) ≡ c.rise-f.result.right.edge.column = to_z-of_z {w = w64} (record { sfits = c.struct_told-in-loop-row-1.given.1.1.1.1.0.1.1.0.1.1.0.1 }) in
+    let place = 8 * (a.s.stride * (a.s.top - row)) in
+    let stands = c.rise-f.ensures ∙ risen_next a.count a.xs.now a.ys.now a.begun a.from c.loop-row.f row c.loop-row.invariant.after c.loop-row.invariant.carried in
+    record {
+      after = omega (arith, c.loop-row.invariant.after);
+      before = omega (arith, c.loop-row-test.true);
+      as_long = c.lay_row.auto.bytes ∙ c.loop-row.invariant.as_long;
+      carried = stands ∙ ap (risen_by a.count a.xs.now a.ys.now a.begun a.from) (omega (arith, c.loop-row.invariant.after));
+      laid = c.lay_row.ensures
+          ∙ ap₂ (λ (x y : ℤ). blackened (span (place + count_to a.s.columns x) (place + count_to a.s.columns y)) c.loop-row.bytes) l r
+          ∙ one_row_more a.count a.xs.now a.ys.now a.begun a.from a.s c.requires.fits c.rise-f.result row (omega (arith, c.requires.part.inside, c.loop-row-test.true)) c.loop-row.invariant.after stands
+          c.loop-row.bytes a.bytes.now c.loop-row.invariant.laid;
+    }
+
+pub shape_of-bytes : goal.shape_of-bytes
+shape_of-bytes c = c.loop-row.invariant.as_long
+
+pub returns : goal.returns
+returns c =
+    let a = c.args in
+    let all : c.loop-row.row ≡ a.to = omega (arith, c.loop-row.invariant.before, c.loop-row-test.false) in
+    c.loop-row.invariant.laid ∙ ap (λ (n : ℕ). blackened (shaped (flank_black a.count a.xs.now a.ys.now a.begun a.s.columns a.from) a.s a.from n) a.bytes.now) all
