@@ -8,7 +8,7 @@ invariant-loop-i l = record {
   least : l.least ≡ turn_at l.xs l.ys l.u l.v l.left;
   most : l.most ≡ turn_at l.xs l.ys l.u l.v l.right;
   left : tangent_of l.xs l.ys l.n (neg_ℤ l.u) (neg_ℤ l.v) ≡ tangent_for l.xs l.ys (neg_ℤ l.u) (neg_ℤ l.v) (l.n - l.i) l.i l.left;
-  right : tangent_of l.xs l.ys l.n l.u l.v ≡ tangent_for l.xs l.ys l.u l.v (l.n - l.i) l.i l.right
+  right : tangent_of l.xs l.ys l.n l.u l.v ≡ tangent_for l.xs l.ys l.u l.v (l.n - l.i) l.i l.right;
 }
 
 abbrev pub decreases-loop-i : goal.decreases-loop-i

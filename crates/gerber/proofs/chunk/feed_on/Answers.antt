@@ -38,9 +38,9 @@ loop-i-preserved c =
     let chunk = c.args.chunk.now in (
       all_read c.args.t l.reader l.path chunk l.i c.loop-i-test.true c.run-scanned.ensures,
       again c.args.t l.reader l.path chunk l.i c.loop-i-test.true c.run-scanned.ensures
-      (told c.args.t l.reader l.path c.run-scanned.result c.act-one.ensures c.with_scanner.ensures)
-      (sym c.if-is_end.ensures) ∙
-      l.invariant.1,
+          (told c.args.t l.reader l.path c.run-scanned.result c.act-one.ensures c.with_scanner.ensures)
+          (sym c.if-is_end.ensures) ∙
+          l.invariant.1,
     )
 
 pub returns : goal.returns
