@@ -19,7 +19,7 @@ use pen::Pen;
 
 // The pen of the aperture as it was at the start, the flanks in the row that comes next, the
 // raster's size, and that row.
-#[derive(Drop)]
+#[derive(Clone, Copy)]
 pub struct Engine {
     pub pen: Pen,
     pub flanks: Flanks,
