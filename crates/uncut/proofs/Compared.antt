@@ -1,15 +1,13 @@
 -- For a path of one or two points the row answer is the extent cut to the raster; and the engine has the same columns between its edges.
-use Prim.Native.Nat.{ℕ, ◌+◌, ◌<◌}
+use Prim.Native.Nat.{ℕ, ◌+◌}
 use mathlib.Core.Path.{◌≡◌, refl, sym, ap, ◌∙◌}
 use mathlib.Core.List.{List}
 use lib.IntN.{ℤ, pos}
 use borrow.Author.Tests.{lt-ltb}
 use Rattle.limits.specs.Sizes.{raster_max}
-use Rattle.limits.specs.declared.Verdict.{Verdict}
 use Rattle.limits.specs.declared.Verdict.TheVariants.{Passed}
 use Rattle.limits.specs.Refusal.{row, unless}
 use Rattle.limits.proofs.Verdicts.{then_both}
-use Rattle.plane.specs.Point.{Pt}
 use Rattle.aperture.specs.declared.Table.{Table}
 use Rattle.aperture.specs.Table.{looked, looked_verdict, held_corners}
 use Rattle.stroke.specs.Sweep.{path_points}

@@ -1,6 +1,6 @@
 -- The extent over pixels: its columns are exactly the black ones. And how far it can reach: no black centre lies further sideways from the segment's ends than half
 -- the pen's width (`BlackSideways`).
-use Prim.Native.Nat.{ℕ, ◌+◌, ◌<◌}
+use Prim.Native.Nat.{ℕ}
 use native.Mathlib.Omega.{arith}
 use mathlib.Core.Path.{◌≡◌, refl, sym, ap, ap₂, subst, ◌∙◌}
 use mathlib.Core.Logic.Iff

@@ -13,7 +13,7 @@ use Rattle.limits.specs.declared.Verdict.TheVariants.{Passed, Refused}
 use Rattle.limits.specs.Refusal.{◌then◌}
 use Rattle.plane.specs.Point.{Pt}
 use Rattle.aperture.specs.declared.Table.{Table}
-use Rattle.aperture.specs.Table.{looked, looked_verdict, held_corners, place_of}
+use Rattle.aperture.specs.Table.{held_corners, place_of}
 use Rattle.stroke.specs.Sweep.{Seg, path_points, segments}
 use Rattle.stroke.specs.Extent.{extent}
 use Rattle.extent.specs.declared.Extent.{Extent}
@@ -26,7 +26,7 @@ use Rattle.checks.specs.declared.Answer.{Answer}
 use Rattle.checks.specs.Checks.{segment_verdict, verdict}
 use Rattle.checks.specs.Answer.{done, answer_of}
 use Rattle.checks.proofs.Verdicts.{verdict_passed}
-use Rattle.checks.proofs.Entries.{Entries, entries_passed}
+use Rattle.checks.proofs.Entries.{entries_passed}
 use Rattle.engine.specs.declared.Engine.{Engine}
 use Rattle.engine.specs.Engine.{engine_of, started_by, started}
 use Rattle.engine.proofs.Checked.{others}

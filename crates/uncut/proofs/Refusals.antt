@@ -1,7 +1,7 @@
 -- What is refused, held against the table of refusals: as a start is in the greatest raster, where 4 never applies, and with no list, where 7 never does.
 use Prim.Native.Nat.{ℕ, ◌<◌}
 use native.Mathlib.Omega.{arith}
-use mathlib.Core.Path.{◌≡◌, refl, sym, ap, subst, ◌∙◌}
+use mathlib.Core.Path.{◌≡◌, refl, sym, subst}
 use mathlib.Core.Logic.Iff
 use mathlib.Core.Logic.{◌⊎◌, inl, inr, ◌↔◌}
 use mathlib.Core.List.{List, []}
@@ -10,7 +10,7 @@ use lib.IntN.{ℤ}
 use Rattle.limits.specs.declared.Verdict.{Verdict}
 use Rattle.limits.specs.declared.Verdict.TheVariants.{Passed, Refused}
 use Rattle.limits.specs.Sizes.{raster_max}
-use Rattle.limits.specs.Exactly.{◌when◌else◌, done, FirstBad, BadRaster, BadRow, BadCoordinate, NoRoom}
+use Rattle.limits.specs.Exactly.{◌when◌else◌, done, BadRaster, BadRow, BadCoordinate, NoRoom}
 use Rattle.aperture.specs.declared.Table.{Table}
 use Rattle.aperture.specs.Refusals.{NoPen}
 use Rattle.extent.specs.declared.Extent.{Extent}
