@@ -1,6 +1,6 @@
 -- The row at the height or the last one under it, and the rule asked of it.
 use mathlib.Core.Path.{◌≡◌, sym, ap₂, ◌∙◌}
-use Prim.Native.Nat.{◌+◌, ◌*◌, ◌^◌}
+use Prim.Native.Nat.{◌+◌, ◌^◌}
 use lib.Dec.{leb→le}
 use lib.IntN.{pos, ◌*ℤ◌}
 use mir.Syntax.{w64}

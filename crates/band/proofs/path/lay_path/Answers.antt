@@ -2,16 +2,15 @@
 use mathlib.Core.List.{List}
 use mathlib.Core.Bool.{true}
 use mathlib.Core.Path.{◌≡◌, refl, sym, ap, ◌∙◌}
-use Prim.Native.Nat.{ℕ, suc, ◌+◌, ◌*◌, ◌-◌, ◌^◌, ◌≤◌, ◌<◌}
+use Prim.Native.Nat.{ℕ, suc, ◌+◌, ◌*◌, ◌^◌, ◌≤◌, ◌<◌}
 use native.Mathlib.Numerals.{add-one}
 use native.Mathlib.Omega.{arith}
-use mir.Syntax.{w32, w64}
-use mir.Val.{Fits, to_z, of_z, hbits}
+use mir.Syntax.{w32}
+use mir.Val.{to_z, of_z, hbits}
 use lib.Signed.{mag}
 use lib.IntN.{ℤ, pos}
 use lib.ListN.{length, get_or}
 use lib.Seq.{take_all}
-use borrow.Author.Rules.{scaled_Fits}
 use Rattle.integers.proofs.Machine.{read_back}
 use Rattle.limits.specs.Sizes.{in_range}
 use Rattle.plane.specs.Point.{Pt, corners}

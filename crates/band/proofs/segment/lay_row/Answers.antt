@@ -5,7 +5,6 @@ use mir.Syntax.{w64}
 use Rattle.integers.proofs.Machine.{par}
 use Rattle.flanks.specs.Flanks.{count_to}
 use Rattle.bits.specs.Bits.{span, blackened}
-use Rattle.band.proofs.segment.lay_row.Reads as reads
 use Rattle.band.proofs.segment.lay_row.Goals as goal
 
 -- src/segment.rt:22:1
