@@ -9,7 +9,7 @@ use mathlib.Core.Option.{Option, none, some}
 use lib.ListN.{length}
 use lib.IntN.{ℤ}
 use borrow.Author.Tests.{lt-leb}
-use Rattle.limits.specs.Refusal.{Refusal, path, coordinate, room, aperture, command, unless_at, ◌then◌}
+use Rattle.limits.specs.Refusal.{Refusal, path, coordinate, room, unless_at, ◌then◌}
 use Rattle.limits.specs.declared.Verdict.{Verdict}
 use Rattle.limits.specs.declared.Verdict.TheVariants.{Passed, Refused}
 use Rattle.aperture.specs.declared.Table.{Table}
