@@ -1,6 +1,6 @@
 -- What calls for bands leave is the band of the definition; so its bits are those of the black pixels.
 use Prim.Native.Nat.{ℕ, ◌+◌, ◌-◌, ◌*◌, ◌/◌, ◌≤◌}
-use native.Mathlib.Nat.{add_mul, le-div_iff_mul-le}
+use native.Mathlib.Nat.{add-mul, le-div_iff_mul-le}
 use native.Mathlib.Omega.{arith}
 use native.Mathlib.Decide.{dec_le}
 use mathlib.Core.Path.{◌≡◌, refl, sym, ap, ap₂, subst, ◌∙◌}
@@ -124,7 +124,7 @@ module _ {cs : List Pt} {path : List ℤ} {columns stride : ℕ} where
   over_atop {first} {k} {m} {b} {b'} {d} {d'} l u v = record {
     some = u.some;
     wide = u.wide;
-    room = omega (arith, add_mul k m stride, length-append b d, l, v.room);
+    room = omega (arith, add-mul k m stride, length-append b d, l, v.room);
     left =
         ap₂ ◌++◌
         (u.left ∙ ap (band_over cs path columns (first + k) m stride) (sym (take_at b d (m * stride) l)))

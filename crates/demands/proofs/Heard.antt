@@ -8,7 +8,7 @@ use lib.Dec.{eqb}
 use lib.ListN.{length}
 use Rattle.limits.specs.Sizes.{entries_max}
 use Rattle.limits.specs.declared.Verdict.{Verdict}
-use Rattle.limits.specs.declared.Verdict.TheVariants.{Passed, Refused}
+use Rattle.limits.specs.declared.Verdict.TheVariants.{Passed}
 use Rattle.limits.specs.Refusal.{path, unless, ◌then◌}
 use Rattle.limits.proofs.Verdicts.{then_both}
 use Rattle.wire.specs.Read.{entries_of}
