@@ -9,14 +9,14 @@ ghost use Rattle.extent.specs.Held.{last_to, at_most, at_least, left, flat_leave
 use crate::Extent;
 
 // num / by, in sixteenths of a pixel. A `by` of 0: no limit yet.
-#[derive(Drop)]
+#[derive(Clone, Copy)]
 pub struct Fraction {
     pub num: i64,
     pub by: i64,
 }
 
 // Whether a flat side leaves any column; the columns lie past `least` and reach up to `most`.
-#[derive(Drop)]
+#[derive(Clone, Copy)]
 pub struct Limits {
     pub some: bool,
     pub least: Fraction,
