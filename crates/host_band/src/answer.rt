@@ -13,7 +13,7 @@ const SHORT: usize = 64;
 const SHORT_BYTES: usize = 4 * SHORT;
 
 // What is asked for: n rows of a raster, from row `first` on, for a setting.
-#[derive(Drop)]
+#[derive(Clone, Copy)]
 pub struct Call {
     pub w: u64,
     pub p: u64,

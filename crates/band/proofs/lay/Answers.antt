@@ -31,7 +31,7 @@ room c = let a = c.args in c.room_check-room.ensures ∙ ap (room_verdict a.n) c
 
 -- the bytes are no more than a slice can have
 few : (s : Start) → length s.args.bytes.now < 2 ^ 63
-few s = omega (arith, s.well_formed.1.1.1.1.1.1.1.1.0.1)
+few s = search rules
 
 -- ---- what the checks that are passed say
 in_limits : (c : After-room_check-room) → let a = c.args in Drawable a.path.now a.columns c.top_row-top.result
@@ -43,9 +43,6 @@ rows_held : (c : After-room_check-room) → let a = c.args in (1 ≤ a.n) × (a.
 rows_held c =
     let a = c.args in
     in_raster (σ c.before.before.before.before.before.before.before.before.before) a.path.now a.columns a.rows a.first a.n a.stride a.bytes.now (found (record { before = c.before.before.before.before.before; type_inv = record { bytes = c.type_inv.bytes } })) c.top_row-top.ensures c.check-checked.ensures (is_passed c)
-
-pub enum_told-1 : goal.enum_told-1
-enum_told-1 c = search rules
 
 pub returns-in_default : goal.returns-in_default
 returns-in_default c =

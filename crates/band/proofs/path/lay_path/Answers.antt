@@ -2,16 +2,16 @@
 use mathlib.Core.List.{List}
 use mathlib.Core.Bool.{true}
 use mathlib.Core.Path.{◌≡◌, refl, sym, ap, ◌∙◌}
-use Prim.Native.Nat.{ℕ, suc, ◌+◌, ◌*◌, ◌^◌, ◌≤◌, ◌<◌}
+use Prim.Native.Nat.{ℕ, suc, ◌+◌, ◌*◌, ◌≤◌, ◌<◌}
 use native.Mathlib.Numerals.{add-one}
 use native.Mathlib.Omega.{arith}
 use mir.Syntax.{w32}
-use mir.Val.{to_z, of_z, hbits}
-use lib.Signed.{mag}
+use mir.Val.{to_z, of_z}
 use lib.IntN.{ℤ, pos}
 use lib.ListN.{length, get_or}
 use lib.Seq.{take_all}
-use Rattle.integers.proofs.Machine.{read_back}
+use Rattle.integers.proofs.Machine.{known}
+use Rattle.flanks.proofs.Bound.{range_abs}
 use Rattle.limits.specs.Sizes.{in_range}
 use Rattle.plane.specs.Point.{Pt, corners}
 use Rattle.bits.specs.Bits.{blackened}
@@ -59,9 +59,9 @@ start_of_lem c = start_in c.args.path.now c.loop-k.k (one_of c)
 ends : (c : After-end_of-b) → EndsAt c.args.path.now c.loop-k.k c.end_of-b.result
 ends c = c.end_of-b.ensures (one_of c.before)
 
--- an entry that was read
-in_range_lem : (z : ℤ) → mag z < 2 ^ hbits w32 → in_range z ≡ true → in_range (to_z w32 (of_z w32 z)) ≡ true
-in_range_lem z h e = ap in_range (read_back w32 h) ∙ e
+-- an entry of a path is read as it stands
+read : (z : ℤ) → in_range z ≡ true → to_z w32 (of_z w32 z) ≡ z
+read z e = (known {w = w32} (range_abs z e) tt).reads
 
 same_segment : {ax ay bx by ax' ay' bx' by' : ℤ} → ax ≡ ax' → ay ≡ ay' → bx ≡ bx' → by ≡ by' → seg ax ay bx by ≡ seg ax' ay' bx' by'
 same_segment a b c d = cc
@@ -97,24 +97,27 @@ overflow_add-b c = omega (arith, (ends (goal.at.overflow_add-b c).After-end_of-b
 pub bounds-path-b-in-loop-k : goal.bounds-path-b-in-loop-k
 bounds-path-b-in-loop-k c = (ends (goal.at.bounds-path-b-in-loop-k c).After-end_of-b).held
 
+-- of the entries of the segment, which are the path's
+in_path : (c : After-end_of-b) → let p = c.args.path.now in let k = c.loop-k.k in let b = c.end_of-b.result in
+    (in_range (get_or p (2 * k) (pos 0)) ≡ true) × (in_range (get_or p (2 * k + 1) (pos 0)) ≡ true) × (in_range (get_or p b (pos 0)) ≡ true) × (in_range (get_or p (b + 1) (pos 0)) ≡ true)
+in_path c =
+    let ranged = c.requires.ranged in
+    let start = start_of_lem c.before in
+    let end = (ends c).held in
+    (ranged _ (omega (arith, start)), ranged _ start, ranged _ (omega (arith, end)), ranged _ end)
+
 pub lay_segment-requires : goal.lay_segment-requires
 lay_segment-requires c =
-    let ranged = c.requires.ranged in
-    let i = ends (goal.at.lay_segment-requires c).After-end_of-b in
-    let p = c.args.path.now in
-    let k = c.loop-k.k in
-    let x = in_range_lem (get_or p (2 * k) (pos 0)) c.lay_segment-arg-in-loop-k-1.given (ranged (2 * k) (omega (arith, start_of_lem (goal.at.lay_segment-requires c).In-loop-k))) in
-    let y = in_range_lem (get_or p (2 * k + 1) (pos 0)) c.lay_segment-arg-in-loop-k-2-1.given (ranged (2 * k + 1) (start_of_lem (goal.at.lay_segment-requires c).In-loop-k)) in
-    let b = c.end_of-b.result in
-    let x' = in_range_lem (get_or p b (pos 0)) c.lay_segment-arg-in-loop-k-3-1.given (ranged b (omega (arith, i.held))) in
-    let y' = in_range_lem (get_or p (b + 1) (pos 0)) c.lay_segment-arg-in-loop-k-4-1.given (ranged (b + 1) i.held) in
-    record { pen = c.requires.pen; ranged = (x, y, x', y'); fits = c.requires.fits; part = c.requires.part }
+    let h = in_path (goal.at.lay_segment-requires c).After-end_of-b in
+    let same = λ (z : ℤ) (e : in_range z ≡ true). ap in_range (read z e) ∙ e in
+    record { pen = c.requires.pen; ranged = (same _ h.0, same _ h.1, same _ h.2, same _ h.3); fits = c.requires.fits; part = c.requires.part }
 
 pub loop-k-preserved : goal.loop-k-preserved
 loop-k-preserved c =
     let a = c.args in
     let cs = corners a.count a.xs.now a.ys.now in
-    let g = same_segment (read_back w32 c.lay_segment-arg-in-loop-k-1.given) (read_back w32 c.lay_segment-arg-in-loop-k-2-1.given) (read_back w32 c.lay_segment-arg-in-loop-k-3-1.given) (read_back w32 c.lay_segment-arg-in-loop-k-4-1.given) in
+    let h = in_path (goal.at.loop-k-preserved c).After-end_of-b in
+    let g = same_segment (read _ h.0) (read _ h.1) (read _ h.2) (read _ h.3) in
     rw add-one (done_step c.loop-k.invariant c.loop-k-test.true c.lay_segment.auto.bytes
     (c.lay_segment.ensures ∙ ap (λ (g : Seg). blackened (shaped (segment_black cs g) a.s a.from a.to) c.loop-k.bytes) (g ∙ sym ((ends (goal.at.loop-k-preserved c).After-end_of-b).segment past))))
 

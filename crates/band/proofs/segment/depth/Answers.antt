@@ -1,6 +1,7 @@
 -- Eight times the first corner's coordinate, which a byte holds.
 use mathlib.Core.Path.{sym, ap}
 use native.Mathlib.Omega.{arith}
+use borrow.Author.Rules.{rules}
 use lib.ListN.{get_or, get_or-eq_default}
 use lib.IntN.{ℤ, pos, ◌*ℤ◌}
 use mir.Syntax.{w64}
@@ -12,7 +13,7 @@ use Rattle.band.proofs.segment.depth.Goals.{After-wide}
 
 -- the coordinate that was read
 read : (c : After-wide) → Is w64 (get_or c.args.ys.now 0 (pos 0)) (bits c.wide.result) 128
-read c = coordinate (record { sfits = c.wide-arg-1.given }) (c.wide.ensures.same, c.wide.ensures.small)
+read c = coordinate {x = get_or c.args.ys.now 0 (pos 0)} (search rules) (c.wide.ensures.same, c.wide.ensures.small)
 
 pub overflow_mul-result : goal.overflow_mul-result
 overflow_mul-result c = mul_fits (num (pos 8) tt) (read c) tt

@@ -4,9 +4,9 @@ use native.Mathlib.Nat.{le_refl}
 use native.Mathlib.Omega.{arith}
 use mathlib.Core.Path.{◌≡◌, refl, sym, ap, ap₂, ◌∙◌}
 use lib.IntN.{ℤ}
+use borrow.Author.Rules.{rules}
 use mir.Syntax.{w64}
 use mir.Val.{to_z, of_z}
-use mir.Facts.{to_z-of_z}
 use Rattle.bits.specs.Bits.{span, blackened}
 use Rattle.flanks.specs.Flanks.{count_to}
 use Rattle.band.specs.Rows.{shaped, risen_by, flank_black}
@@ -34,8 +34,8 @@ pub loop-row-preserved : goal.loop-row-preserved
 loop-row-preserved c =
     let a = c.args in
     let row = c.loop-row.row in
-    let l : to_z w64 (of_z w64 c.rise-f.result.left.edge.column) ≡ c.rise-f.result.left.edge.column = to_z-of_z {w = w64} (record { sfits = c.struct_told-1.given.1.1.1.0.1.1.0.1.1.0.1 }) in
-    let r : to_z w64 (of_z w64 c.rise-f.result.right.edge.column) ≡ c.rise-f.result.right.edge.column = to_z-of_z {w = w64} (record { sfits = c.struct_told-in-loop-row-1.given.1.1.1.1.0.1.1.0.1.1.0.1 }) in
+    let l : to_z w64 (of_z w64 c.rise-f.result.left.edge.column) ≡ c.rise-f.result.left.edge.column = search rules in
+    let r : to_z w64 (of_z w64 c.rise-f.result.right.edge.column) ≡ c.rise-f.result.right.edge.column = search rules in
     let place = 8 * (a.s.stride * (a.s.top - row)) in
     let stands = c.rise-f.ensures ∙ risen_next a.count a.xs.now a.ys.now a.begun a.from c.loop-row.f row c.loop-row.invariant.after c.loop-row.invariant.carried in
     record {
