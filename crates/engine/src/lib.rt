@@ -150,6 +150,7 @@ fn next(e: Engine) -> Engine
 
 // The runs of the row in which the engine stands, as left and right columns alternating: one, or
 // none. Past the last row it is refused with 5, and for lack of room with 7.
+#[tactic(auto, using(crate::proofs::StepCases::step_past, crate::proofs::StepCases::step_written))]
 pub fn step(e: Engine, runs: &mut [u16]) -> Stepped
     ensures answer { record { answer = result.answer; list = runs.new } ≡ step_result e runs.old }
     ensures engine { result.engine ≡ stepped e runs.old }

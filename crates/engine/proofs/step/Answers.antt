@@ -2,26 +2,16 @@
 use Rattle.engine.proofs.StepCases.{step_past, step_written, stays, goes_up, past_number}
 use Rattle.engine.proofs.step.Goals as goal
 
-pub returns-in_default-clause-answer : goal.returns-in_default-clause-answer
-returns-in_default-clause-answer c = step_past c.args.e c.args.runs.now c.row_check-checked.ensures c.in_default.is c.report.ensures
-
 pub returns-in_default-clause-engine : goal.returns-in_default-clause-engine
 returns-in_default-clause-engine c =
     let e = c.args.e in
     let same = step_past e c.args.runs.now c.row_check-checked.ensures c.in_default.is c.report.ensures in
     stays e c.args.runs.now same (past_number e.rows e.row c.row_check-checked.ensures c.in_default.is c.report.ensures)
 
-pub returns-then-answer-ne-DONE-clause-answer : goal.returns-then-answer-ne-DONE-clause-answer
-returns-then-answer-ne-DONE-clause-answer c =
-    step_written c.args.e c.args.runs.now c.row_check-checked.ensures c.in-Passed.is c.between.ensures c.write_cut-answer.ensures
-
 pub returns-then-answer-ne-DONE-clause-engine : goal.returns-then-answer-ne-DONE-clause-engine
 returns-then-answer-ne-DONE-clause-engine c =
     let same = step_written c.args.e c.args.runs.now c.row_check-checked.ensures c.in-Passed.is c.between.ensures c.write_cut-answer.ensures in
     stays c.args.e c.args.runs.now same c.if-answer-ne-DONE.true
-
-pub returns-clause-answer : goal.returns-clause-answer
-returns-clause-answer c = step_written c.args.e c.args.runs.now c.row_check-checked.ensures c.in-Passed.is c.between.ensures c.write_cut-answer.ensures
 
 pub returns-clause-engine : goal.returns-clause-engine
 returns-clause-engine c =
