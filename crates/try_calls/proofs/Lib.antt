@@ -1,3 +1,2 @@
--- Fill: a list filled with a pattern, place by place. Elements: an array of records as a field.
+-- Fill: a list filled with a pattern, place by place.
 pub mod Fill
-pub mod Elements

@@ -1,4 +1,4 @@
-// Records to lend. A slice of structs is made here alone, in one function that is proved by hand.
+// Records to lend. A slice of structs is made here alone.
 ghost use Rattle.std.specs.Prelude.{◌≡◌, ◌≤◌, take};
 ghost use Rattle.try_calls.specs.Command.{records_max};
 ghost use Rattle.try_calls.specs.Lent.{lent};
@@ -9,6 +9,8 @@ use crate::pattern;
 use aperture::Table;
 use checks::Answer;
 use records::Run;
+
+const NOTHING: Run = Run { left: 0, right: 0 };
 
 #[derive(Drop)]
 pub struct Runs {
@@ -49,8 +51,7 @@ pub fn filled(n: usize) -> Runs
     requires { n ≤ records_max }
     ensures { take n result.list ≡ pattern run_at n }
 {
-    let nothing = Run { left: 0, right: 0 };
-    let mut list = [nothing; RECORDS_MAX];
+    let mut list = [NOTHING; RECORDS_MAX];
     let mut i = 0;
     while i < n {
         list[i] = Run {

@@ -50,7 +50,7 @@ pub fn put_records(rt: HostRuntime, list: [Run; RECORDS_MAX], n: usize) -> bool
     let mut numbers = [0u16; ROOM_MAX];
     let mut i = 0;
     while i < n {
-        let run = list[i];
+        let run = &list[i];
         numbers[2 * i] = run.left;
         numbers[2 * i + 1] = run.right;
         i += 1;
