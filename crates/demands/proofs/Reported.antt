@@ -55,9 +55,12 @@ records_runs (r ∷ rs) l = ap (λ (k : List Run). r ∷ k) (records_runs rs l)
 two_bytes : (x : ℕ) → x % 256 + 256 * (x / 256) ≡ x
 two_bytes x = omega arith
 
+four_bytes : (r : Run) → ◌≡◌ {A = Run} (record { left = r.left % 256 + 256 * (r.left / 256); right = r.right % 256 + 256 * (r.right / 256) }) r
+four_bytes r = ap₂ (λ (x y : ℕ). record { left = x; right = y }) (two_bytes r.left) (two_bytes r.right)
+
 pub bytes_runs : (rs : List Run) (l : List ℕ) → runs_in_bytes (length rs) (run_bytes rs ++ l) ≡ rs
 bytes_runs [] l = refl
-bytes_runs (r ∷ rs) l = rw (two_bytes r.left, two_bytes r.right) (ap (λ (k : List Run). r ∷ k) (bytes_runs rs l))
+bytes_runs (r ∷ rs) l = ap₂ (λ (s : Run) (k : List Run). s ∷ k) (four_bytes r) (bytes_runs rs l)
 
 -- ---- no refusal of a call is 0
 pub setting_not_zero : (c : Checked) → NotZero (checked_verdict c)
