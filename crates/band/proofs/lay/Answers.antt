@@ -1,7 +1,6 @@
 -- Each check refuses, or leads to the next; where all are passed, the band is the definition's.
-use native.Mathlib.Omega.{arith}
 use mathlib.Core.Path.{◌≡◌, sym, ap, ◌∙◌}
-use Prim.Native.Nat.{◌+◌, ◌-◌, ◌≤◌, ◌<◌, ◌^◌}
+use Prim.Native.Nat.{◌<◌, ◌^◌}
 use lib.ListN.{length}
 use Rattle.limits.specs.Sizes.{Drawable}
 use Rattle.limits.specs.declared.Verdict.TheVariants.{Passed}
@@ -10,7 +9,7 @@ use Rattle.setting.specs.declared.Checked.TheVariants as checked·
 use Rattle.setting.specs.Answer.{checked}
 use Rattle.checks.specs.Checks.{room_verdict}
 use Rattle.band.specs.Band.{room_for}
-use Rattle.band.proofs.Call.{call_unset, call_refused, set_taken, drawable, short, in_raster, call_no_room, band_fits, band_part, call_given}
+use Rattle.band.proofs.Call.{call_unset, call_refused, set_taken, drawable, call_no_room, band_fits, band_part, call_given}
 use borrow.Author.Rules.{rules}
 use Rattle.band.proofs.lay.Goals as goal
 use Rattle.band.proofs.lay.Goals.{After-room_check-room, After-top_row-top, Start}
@@ -39,11 +38,6 @@ in_limits c =
     let a = c.args in
     drawable (σ c.before.before.before.before.before.before.before.before.before) a.path.now a.columns a.rows a.first a.n a.stride a.bytes.now (found (record { before = c.before.before.before.before.before; type_inv = record { bytes = c.type_inv.bytes } })) c.top_row-top.ensures c.check-checked.ensures (is_passed c)
 
-rows_held : (c : After-room_check-room) → let a = c.args in (1 ≤ a.n) × (a.first + a.n ≤ a.rows) × (c.top_row-top.result ≡ a.first + (a.n - 1))
-rows_held c =
-    let a = c.args in
-    in_raster (σ c.before.before.before.before.before.before.before.before.before) a.path.now a.columns a.rows a.first a.n a.stride a.bytes.now (found (record { before = c.before.before.before.before.before; type_inv = record { bytes = c.type_inv.bytes } })) c.top_row-top.ensures c.check-checked.ensures (is_passed c)
-
 pub returns-in_default : goal.returns-in_default
 returns-in_default c =
     let a = c.args in
@@ -52,28 +46,38 @@ returns-in_default c =
 pub returns-in_default-checked : goal.returns-in_default-checked
 returns-in_default-checked c =
     let a = c.args in
-    call_refused (σ (goal.at.returns-in_default-checked c).Start) a.path.now a.columns a.rows a.first a.n a.stride a.bytes.now (found (goal.at.returns-in_default-checked c).After-top_row-top) c.top_row-top.ensures c.check-checked.ensures c.in_default-checked.is c.report-in_default-checked.ensures
+    let at = goal.at.returns-in_default-checked c in
+    call_refused (σ at.Start) a.path.now a.columns a.rows a.first a.n a.stride a.bytes.now (found at.After-top_row-top) c.top_row-top.ensures c.check-checked.ensures c.in_default-checked.is c.report-in_default-checked.ensures
 
 pub returns-in_default-room : goal.returns-in_default-room
 returns-in_default-room c =
     let a = c.args in
-    call_no_room (σ (goal.at.returns-in_default-room c).Start) a.path.now a.columns a.rows a.first a.n a.stride a.bytes.now (found (goal.at.returns-in_default-room c).After-top_row-top) c.top_row-top.ensures c.check-checked.ensures (is_passed (goal.at.returns-in_default-room c).After-room_check-room) (room (goal.at.returns-in_default-room c).After-room_check-room) c.in_default-room.is c.report-in_default-room.ensures
+    let at = goal.at.returns-in_default-room c in
+    call_no_room (σ at.Start) a.path.now a.columns a.rows a.first a.n a.stride a.bytes.now (found at.After-top_row-top) c.top_row-top.ensures c.check-checked.ensures (is_passed at.After-room_check-room) (room at.After-room_check-room) c.in_default-room.is c.report-in_default-room.ensures
 
-pub overflow_cast-shape : goal.overflow_cast-shape
-overflow_cast-shape c = omega (arith, (in_limits (goal.at.overflow_cast-shape c).After-room_check-room).size.few)
-
-pub overflow_cast-shape-2 : goal.overflow_cast-shape-2
-overflow_cast-shape-2 c = omega (arith, (in_limits (goal.at.overflow_cast-shape-2 c).After-room_check-room).low)
-
-pub overflow_cast-first : goal.overflow_cast-first
-overflow_cast-first c = omega (arith, (in_limits (goal.at.overflow_cast-first c).After-room_check-room).low, (rows_held (goal.at.overflow_cast-first c).After-room_check-room).2)
-
-pub lay_drawn-requires : goal.lay_drawn-requires
-lay_drawn-requires c =
+pub lay_drawn-requires-clause-taken : goal.lay_drawn-requires-clause-taken
+lay_drawn-requires-clause-taken c =
     let a = c.args in
-    let e = c.in-Passed-room.is in record { taken = set_taken (σ (goal.at.lay_drawn-requires c).Start) a.path.now a.columns a.rows a.first a.n a.stride a.bytes.now (found (goal.at.lay_drawn-requires c).After-top_row-top) c.top_row-top.ensures c.check-checked.ensures; short = short (σ (goal.at.lay_drawn-requires c).Start) a.path.now a.columns a.rows a.first a.n a.stride a.bytes.now (found (goal.at.lay_drawn-requires c).After-top_row-top) c.top_row-top.ensures c.check-checked.ensures (is_passed (goal.at.lay_drawn-requires c).After-room_check-room); ranged = (in_limits (goal.at.lay_drawn-requires c).After-room_check-room).coordinates; fits = band_fits (σ (goal.at.lay_drawn-requires c).Start) a.path.now a.columns a.rows a.first a.n a.stride a.bytes.now (found (goal.at.lay_drawn-requires c).After-top_row-top) c.top_row-top.ensures c.check-checked.ensures (is_passed (goal.at.lay_drawn-requires c).After-room_check-room) (room (goal.at.lay_drawn-requires c).After-room_check-room) e; part = band_part (σ (goal.at.lay_drawn-requires c).Start) a.path.now a.columns a.rows a.first a.n a.stride a.bytes.now (found (goal.at.lay_drawn-requires c).After-top_row-top) c.top_row-top.ensures c.check-checked.ensures (is_passed (goal.at.lay_drawn-requires c).After-room_check-room) (room (goal.at.lay_drawn-requires c).After-room_check-room) e (few (goal.at.lay_drawn-requires c).Start) }
+    let at = goal.at.lay_drawn-requires-clause-taken c in
+    set_taken (σ at.Start) a.path.now a.columns a.rows a.first a.n a.stride a.bytes.now (found at.After-top_row-top) c.top_row-top.ensures c.check-checked.ensures
+
+pub lay_drawn-requires-clause-ranged : goal.lay_drawn-requires-clause-ranged
+lay_drawn-requires-clause-ranged c = (in_limits (goal.at.lay_drawn-requires-clause-ranged c).After-room_check-room).coordinates
+
+pub lay_drawn-requires-clause-fits : goal.lay_drawn-requires-clause-fits
+lay_drawn-requires-clause-fits c =
+    let a = c.args in
+    let at = goal.at.lay_drawn-requires-clause-fits c in
+    band_fits (σ at.Start) a.path.now a.columns a.rows a.first a.n a.stride a.bytes.now (found at.After-top_row-top) c.top_row-top.ensures c.check-checked.ensures (is_passed at.After-room_check-room) (room at.After-room_check-room) c.in-Passed-room.is
+
+pub lay_drawn-requires-clause-part : goal.lay_drawn-requires-clause-part
+lay_drawn-requires-clause-part c =
+    let a = c.args in
+    let at = goal.at.lay_drawn-requires-clause-part c in
+    band_part (σ at.Start) a.path.now a.columns a.rows a.first a.n a.stride a.bytes.now (found at.After-top_row-top) c.top_row-top.ensures c.check-checked.ensures (is_passed at.After-room_check-room) (room at.After-room_check-room) c.in-Passed-room.is (few at.Start)
 
 pub returns : goal.returns
 returns c =
     let a = c.args in
-    call_given (σ (goal.at.returns c).Start) a.path.now a.columns a.rows a.first a.n a.stride a.bytes.now (found (goal.at.returns c).After-top_row-top) c.top_row-top.ensures c.check-checked.ensures (is_passed (goal.at.returns c).After-room_check-room) (room (goal.at.returns c).After-room_check-room) c.in-Passed-room.is c.done.ensures c.lay_drawn.ensures
+    let at = goal.at.returns c in
+    call_given (σ at.Start) a.path.now a.columns a.rows a.first a.n a.stride a.bytes.now (found at.After-top_row-top) c.top_row-top.ensures c.check-checked.ensures (is_passed at.After-room_check-room) (room at.After-room_check-room) c.in-Passed-room.is c.done.ensures c.lay_drawn.ensures

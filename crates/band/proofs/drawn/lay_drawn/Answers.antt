@@ -7,7 +7,7 @@ use mathlib.Core.Bool.{false}
 use lib.IntN.{ℤ, pos, ◌+ℤ◌, ◌-ℤ◌, ◌*ℤ◌}
 use mir.Syntax.{w64}
 use Rattle.integers.proofs.Bound.{abs_le}
-use Rattle.integers.proofs.Machine.{Is, num, known, call, of_nat, mul, mul_fits, sub, sub_fits, add, add_fits, bound}
+use Rattle.integers.proofs.Machine.{Is, num, known, call, of_nat, mul, sub, sub_fits, add, add_fits, bound}
 use Rattle.integers.proofs.Words.{bits, ◌⊗◌, ◌⊖◌, ◌⊕◌}
 use Rattle.setting.specs.Setting.{Dy}
 use Rattle.setting.proofs.Limits.{box_high}
@@ -15,7 +15,7 @@ use Rattle.pen.specs.Polygon.{pen}
 use Rattle.reach.specs.Reach.{least_y, greatest_y}
 use Rattle.reach.proofs.Heights.{none_under, none_over, least_small, greatest_small}
 use Rattle.band.specs.Rows.{path_black, Past}
-use Rattle.band.proofs.Layers.{laid_none, laid_wider, part_of}
+use Rattle.band.proofs.Layers.{laid_none, laid_wider}
 use Rattle.band.proofs.Reached.{clear_before, clear_past}
 use Rattle.band.proofs.drawn.lay_drawn.Goals as goal
 use Rattle.band.proofs.drawn.lay_drawn.Goals.{After-greatest_y, After-least_y, After-rows_past-from, After-rows_past-to, Start}
@@ -60,27 +60,17 @@ none_past : (c : After-rows_past-to) → let a = c.args in
 none_past c =
     clear_past c.requires.taken c.args.path.now (greatest_y c.args.path.now) c.args.first (c.args.s.top + 1) (none_over c.args.path.now) (last_past c)
 
-pub overflow_mul-half : goal.overflow_mul-half
-overflow_mul-half c = mul_fits (num {w = w64} (pos 8) tt) (of_nat ((c.args.setting.w + 8) / 16) {a = 32} (half_small (goal.at.overflow_mul-half c).Start) tt) tt
-
 pub overflow_sub-least_y : goal.overflow_sub-least_y
 overflow_sub-least_y c = sub_fits (least c) (half (goal.at.overflow_sub-least_y c).Start) tt
 
-pub rows_past-from-requires : goal.rows_past-from-requires
-rows_past-from-requires c =
-    record { small = abs_le (omega arith) (bound (lowest (goal.at.rows_past-from-requires c).After-least_y)); ordered = c.requires.part.ordered }
+pub rows_past-from-requires-clause-small : goal.rows_past-from-requires-clause-small
+rows_past-from-requires-clause-small c = abs_le (omega arith) (bound (lowest (goal.at.rows_past-from-requires-clause-small c).After-least_y))
 
 pub overflow_add-greatest_y : goal.overflow_add-greatest_y
 overflow_add-greatest_y c = add_fits (greatest c) (half (goal.at.overflow_add-greatest_y c).Start) tt
 
-pub rows_past-to-requires : goal.rows_past-to-requires
-rows_past-to-requires c =
-    record { small = abs_le (omega arith) (bound (highest (goal.at.rows_past-to-requires c).After-greatest_y)); ordered = c.requires.part.ordered }
-
-pub lay_pen-requires : goal.lay_pen-requires
-lay_pen-requires c =
-    let f = c.rows_past-from.result in
-    record { taken = c.requires.taken; short = c.requires.short; ranged = c.requires.ranged; fits = c.requires.fits; part = part_of f c.rows_past-to.result c.requires.part (first_past (goal.at.lay_pen-requires c).After-rows_past-from).after (omega (arith, c.if-from-to.true)) (last_past (goal.at.lay_pen-requires c).After-rows_past-to).before }
+pub rows_past-to-requires-clause-small : goal.rows_past-to-requires-clause-small
+rows_past-to-requires-clause-small c = abs_le (omega arith) (bound (highest (goal.at.rows_past-to-requires-clause-small c).After-greatest_y))
 
 pub returns-then-from-to : goal.returns-then-from-to
 returns-then-from-to c =

@@ -7,9 +7,8 @@ use Rattle.band.specs.Rows.{shaped, path_black}
 use Rattle.band.proofs.Built.{built_corners_lem, built_pen}
 use Rattle.band.proofs.drawn.lay_pen.Goals as goal
 
-pub lay_tiles-requires : goal.lay_tiles-requires
-lay_tiles-requires c =
-    record { short = c.requires.short; pen = built_pen c.requires.taken c.build-built.ensures; ranged = c.requires.ranged; fits = c.requires.fits; part = c.requires.part }
+pub lay_tiles-requires-clause-pen : goal.lay_tiles-requires-clause-pen
+lay_tiles-requires-clause-pen c = built_pen c.requires.taken c.build-built.ensures
 
 pub returns : goal.returns
 returns c =

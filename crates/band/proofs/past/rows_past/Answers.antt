@@ -4,11 +4,11 @@ use Prim.Native.Nat.{◌^◌}
 use lib.Dec.{le→leb}
 use lib.IntN.{ℤ, pos}
 use lib.Signed.{le_z_yes}
-use mir.Syntax.{w16, w64}
+use mir.Syntax.{w64}
 use Rattle.integers.specs.Orders.{◌≼◌, ◌≺◌}
 use Rattle.integers.proofs.Ring.{ring, reify}
 use native.Mathlib.Omega.{arith}
-use Rattle.integers.proofs.Machine.{Is, known, rebound, le_yes, le_no, lt_yes, lt_no, to_nat, to_nat_fits}
+use Rattle.integers.proofs.Machine.{Is, known, rebound, le_yes, le_no, lt_yes, lt_no, to_nat}
 use Rattle.integers.proofs.Words.{bits}
 use Rattle.flanks.proofs.Numbers.{number16}
 use Rattle.band.specs.Rows.{FirstPast, Past}
@@ -46,9 +46,6 @@ module _ (c : Then-row-to) where
 pub returns-then-row-from : goal.returns-then-row-from
 returns-then-row-from c =
     past_all (first_of (goal.at.returns-then-row-from c).After-first_past-row) c.requires.ordered (le_yes (first (goal.at.returns-then-row-from c).After-first_past-row) (number16 c.ranges.from) c.if-row-from.true)
-
-pub overflow_cast-result : goal.overflow_cast-result
-overflow_cast-result c = to_nat_fits (row c) w16 (natural c) tt
 
 pub returns-then-row-to : goal.returns-then-row-to
 returns-then-row-to c =

@@ -79,24 +79,6 @@ loop-k-init c =
 pub overflow_mul-a : goal.overflow_mul-a
 overflow_mul-a c = omega (arith, start_of_lem c)
 
-pub bounds-path-a : goal.bounds-path-a
-bounds-path-a c = omega (arith, start_of_lem (goal.at.bounds-path-a c).In-loop-k)
-
-pub overflow_add-a : goal.overflow_add-a
-overflow_add-a c = omega (arith, start_of_lem (goal.at.overflow_add-a c).In-loop-k)
-
-pub bounds-path-a-in-loop-k : goal.bounds-path-a-in-loop-k
-bounds-path-a-in-loop-k c = start_of_lem (goal.at.bounds-path-a-in-loop-k c).In-loop-k
-
-pub bounds-path-b : goal.bounds-path-b
-bounds-path-b c = omega (arith, (ends (goal.at.bounds-path-b c).After-end_of-b).held)
-
-pub overflow_add-b : goal.overflow_add-b
-overflow_add-b c = omega (arith, (ends (goal.at.overflow_add-b c).After-end_of-b).held)
-
-pub bounds-path-b-in-loop-k : goal.bounds-path-b-in-loop-k
-bounds-path-b-in-loop-k c = (ends (goal.at.bounds-path-b-in-loop-k c).After-end_of-b).held
-
 -- of the entries of the segment, which are the path's
 in_path : (c : After-end_of-b) → let p = c.args.path.now in let k = c.loop-k.k in let b = c.end_of-b.result in
     (in_range (get_or p (2 * k) (pos 0)) ≡ true) × (in_range (get_or p (2 * k + 1) (pos 0)) ≡ true) × (in_range (get_or p b (pos 0)) ≡ true) × (in_range (get_or p (b + 1) (pos 0)) ≡ true)
@@ -106,11 +88,11 @@ in_path c =
     let end = (ends c).held in
     (ranged _ (omega (arith, start)), ranged _ start, ranged _ (omega (arith, end)), ranged _ end)
 
-pub lay_segment-requires : goal.lay_segment-requires
-lay_segment-requires c =
-    let h = in_path (goal.at.lay_segment-requires c).After-end_of-b in
+pub lay_segment-requires-clause-ranged : goal.lay_segment-requires-clause-ranged
+lay_segment-requires-clause-ranged c =
+    let h = in_path (goal.at.lay_segment-requires-clause-ranged c).After-end_of-b in
     let same = λ (z : ℤ) (e : in_range z ≡ true). ap in_range (read z e) ∙ e in
-    record { pen = c.requires.pen; ranged = (same _ h.0, same _ h.1, same _ h.2, same _ h.3); fits = c.requires.fits; part = c.requires.part }
+    (same _ h.0, same _ h.1, same _ h.2, same _ h.3)
 
 pub loop-k-preserved : goal.loop-k-preserved
 loop-k-preserved c =
@@ -120,9 +102,6 @@ loop-k-preserved c =
     let g = same_segment (read _ h.0) (read _ h.1) (read _ h.2) (read _ h.3) in
     rw add-one (done_step c.loop-k.invariant c.loop-k-test.true c.lay_segment.auto.bytes
     (c.lay_segment.ensures ∙ ap (λ (g : Seg). blackened (shaped (segment_black cs g) a.s a.from a.to) c.loop-k.bytes) (g ∙ sym ((ends (goal.at.loop-k-preserved c).After-end_of-b).segment past))))
-
-pub shape_of-bytes : goal.shape_of-bytes
-shape_of-bytes c = c.loop-k.invariant.as_long
 
 pub returns : goal.returns
 returns c = done_end c.args.path.now c.loop-k.invariant c.loop-k-test.false

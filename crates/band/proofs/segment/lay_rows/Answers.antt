@@ -1,5 +1,5 @@
 -- The rows so far are laid over the bytes, and the flanks have come to the last of them.
-use Prim.Native.Nat.{ℕ, ◌+◌, ◌-◌, ◌*◌}
+use Prim.Native.Nat.{◌+◌, ◌-◌, ◌*◌}
 use native.Mathlib.Nat.{le_refl}
 use native.Mathlib.Omega.{arith}
 use mathlib.Core.Path.{◌≡◌, refl, sym, ap, ap₂, ◌∙◌}
@@ -9,7 +9,7 @@ use mir.Syntax.{w64}
 use mir.Val.{to_z, of_z}
 use Rattle.bits.specs.Bits.{span, blackened}
 use Rattle.flanks.specs.Flanks.{count_to}
-use Rattle.band.specs.Rows.{shaped, risen_by, flank_black}
+use Rattle.band.specs.Rows.{risen_by}
 use Rattle.band.proofs.Layers.{part_of}
 use Rattle.band.proofs.Carried.{risen_none, risen_next, rows_at_first, one_row_more}
 use Rattle.band.proofs.segment.lay_rows.Goals as goal
@@ -25,10 +25,8 @@ loop-row-init c =
       laid = rows_at_first a.count a.xs.now a.ys.now a.begun a.from a.s a.bytes.now;
     }
 
-pub lay_row-requires : goal.lay_row-requires
-lay_row-requires c =
-    let part = c.requires.part in
-    record { held = omega (arith, c.requires.part.inside, c.loop-row-test.true); fits = (part_of c.loop-row.row _ part c.loop-row.invariant.after c.loop-row.invariant.before (le_refl _)).placed }
+pub lay_row-requires-clause-fits : goal.lay_row-requires-clause-fits
+lay_row-requires-clause-fits c = (part_of c.loop-row.row _ c.requires.part c.loop-row.invariant.after c.loop-row.invariant.before (le_refl _)).placed
 
 pub loop-row-preserved : goal.loop-row-preserved
 loop-row-preserved c =
@@ -48,12 +46,3 @@ loop-row-preserved c =
           ∙ one_row_more a.count a.xs.now a.ys.now a.begun a.from a.s c.requires.fits c.rise-f.result row (omega (arith, c.requires.part.inside, c.loop-row-test.true)) c.loop-row.invariant.after stands
           c.loop-row.bytes a.bytes.now c.loop-row.invariant.laid;
     }
-
-pub shape_of-bytes : goal.shape_of-bytes
-shape_of-bytes c = c.loop-row.invariant.as_long
-
-pub returns : goal.returns
-returns c =
-    let a = c.args in
-    let all : c.loop-row.row ≡ a.to = omega (arith, c.loop-row.invariant.before, c.loop-row-test.false) in
-    c.loop-row.invariant.laid ∙ ap (λ (n : ℕ). blackened (shaped (flank_black a.count a.xs.now a.ys.now a.begun a.s.columns a.from) a.s a.from n) a.bytes.now) all

@@ -12,7 +12,7 @@ use mir.Facts.{to_z-of_z}
 use Rattle.integers.specs.Bound.{Abs}
 use Rattle.integers.specs.Compare.{min_z, max_z}
 use Rattle.integers.proofs.Bound.{abs_le}
-use Rattle.integers.proofs.Machine.{Is, known, got, add, add_fits, sub, sub_fits, cast, cast_fits, bound}
+use Rattle.integers.proofs.Machine.{Is, known, got, add, add_fits, sub, sub_fits, cast, bound}
 use Rattle.integers.proofs.Words.{bits, ◌⊕◌, ◌⊖◌, min_is, max_is}
 use Rattle.flanks.specs.declared.Flanks.{Flanks}
 use Rattle.flanks.specs.Flanks.{begun}
@@ -61,33 +61,21 @@ read f = to_z-of_z f
 same_begun : (count : ℕ) (xs ys : List ℤ) {ax ay bx by ax' ay' bx' by' : ℤ} → ax ≡ ax' → ay ≡ ay' → bx ≡ bx' → by ≡ by' → begun count xs ys ax ay bx by ≡ begun count xs ys ax' ay' bx' by'
 same_begun count xs ys a b c d = cc
 
-pub overflow_cast-ay : goal.overflow_cast-ay
-overflow_cast-ay c = cast_fits (known {w = w32} (range_abs c.args.ay c.requires.ranged.1) tt) w64 tt
-
-pub overflow_cast-by : goal.overflow_cast-by
-overflow_cast-by c = cast_fits (known {w = w32} (range_abs c.args.by c.requires.ranged.3) tt) w64 tt
-
 pub overflow_add-min : goal.overflow_add-min
 overflow_add-min c = add_fits (min_is (ay (goal.at.overflow_add-min c).Start) (by (goal.at.overflow_add-min c).Start) c.min.ensures) (depth (goal.at.overflow_add-min c).After-depth-deep) tt
 
-pub rows_past-low-requires : goal.rows_past-low-requires
-rows_past-low-requires c = record { small = abs_le (leb→le 263168 (2 ^ 24) tt) (bound (low c)); ordered = c.requires.part.ordered }
-
-pub overflow_cast-ay-2 : goal.overflow_cast-ay-2
-overflow_cast-ay-2 c = cast_fits (known {w = w32} (range_abs c.args.ay c.requires.ranged.1) tt) w64 tt
-
-pub overflow_cast-by-2 : goal.overflow_cast-by-2
-overflow_cast-by-2 c = cast_fits (known {w = w32} (range_abs c.args.by c.requires.ranged.3) tt) w64 tt
+pub rows_past-low-requires-clause-small : goal.rows_past-low-requires-clause-small
+rows_past-low-requires-clause-small c = abs_le (leb→le 263168 (2 ^ 24) tt) (bound (low (goal.at.rows_past-low-requires-clause-small c).After-min))
 
 pub overflow_sub-max : goal.overflow_sub-max
 overflow_sub-max c = sub_fits (max_is (ay (goal.at.overflow_sub-max c).Start) (by (goal.at.overflow_sub-max c).Start) c.max.ensures) (depth (goal.at.overflow_sub-max c).After-depth-deep) tt
 
-pub rows_past-high-requires : goal.rows_past-high-requires
-rows_past-high-requires c = record { small = abs_le (leb→le 263168 (2 ^ 24) tt) (bound (high c)); ordered = c.requires.part.ordered }
+pub rows_past-high-requires-clause-small : goal.rows_past-high-requires-clause-small
+rows_past-high-requires-clause-small c = abs_le (leb→le 263168 (2 ^ 24) tt) (bound (high (goal.at.rows_past-high-requires-clause-small c).After-max))
 
-pub lay_rows-requires : goal.lay_rows-requires
-lay_rows-requires c =
-    record { fits = c.requires.fits; part = part_of c.rows_past-low.result c.rows_past-high.result c.requires.part (low_rows (goal.at.lay_rows-requires c).After-rows_past-low).after (le_of_lt c.if-low-high.true) (high_rows (goal.at.lay_rows-requires c).After-rows_past-high).before }
+pub lay_rows-requires-clause-part : goal.lay_rows-requires-clause-part
+lay_rows-requires-clause-part c =
+    part_of c.rows_past-low.result c.rows_past-high.result c.requires.part c.rows_past-low.ensures.after (le_of_lt c.if-low-high.true) c.rows_past-high.ensures.before
 
 pub returns-then-low-high : goal.returns-then-low-high
 returns-then-low-high c =

@@ -9,7 +9,7 @@ use Rattle.plane.specs.Point.{corners}
 use Rattle.bits.specs.Bits.{blackened}
 use Rattle.band.specs.declared.Shape.{Shape}
 use Rattle.band.specs.Rows.{shaped, path_black}
-use Rattle.band.proofs.Layers.{laid_none, laid_after, part_of}
+use Rattle.band.proofs.Layers.{laid_none, laid_after}
 use Rattle.band.proofs.tiles.lay_tiles.Invariants.{Done}
 use Rattle.band.proofs.tiles.lay_tiles.Goals as goal
 
@@ -23,16 +23,6 @@ done_step {black} {s} {from} {bytes₀ = bytes₀} {t = t} {e} d h k l f = recor
   laid = f ∙ laid_after black s from t e bytes₀ d.after h d.laid;
 }
 
--- after the last all are
-done_end : {black : ℕ → ℕ → Bool} {s : Shape} {from to : ℕ} {bytes₀ bytes : List ℕ} {t : ℕ} → Done black s from to bytes₀ bytes t → to ≤ t → bytes ≡ blackened (shaped black s from to) bytes₀
-done_end {black} {s} {from} {to} {bytes₀} {t = t} d h = let e : t ≡ to = omega (arith, d.before) in rw e at d.laid
-
-pub overflow_sub-to : goal.overflow_sub-to
-overflow_sub-to c = c.requires.part.ordered
-
-pub height-height-requires : goal.height-height-requires
-height-height-requires c = c.requires.short
-
 pub loop-t-init : goal.loop-t-init
 loop-t-init c =
     let a = c.args in (
@@ -45,22 +35,6 @@ loop-t-init c =
       },
     )
 
-pub end_of_tile-end-requires : goal.end_of_tile-end-requires
-end_of_tile-end-requires c = record { before = c.loop-t-test.true; some = c.loop-t.invariant.0 }
-
-pub lay_path-requires : goal.lay_path-requires
-lay_path-requires c =
-    record { pen = c.requires.pen; ranged = c.requires.ranged; fits = c.requires.fits; part = part_of c.loop-t.t c.end_of_tile-end.result c.requires.part c.loop-t.invariant.1.after (omega (arith, c.end_of_tile-end.ensures.further)) c.end_of_tile-end.ensures.within }
-
-pub loop-t-smaller : goal.loop-t-smaller
-loop-t-smaller c = omega (arith, c.end_of_tile-end.ensures.further, c.end_of_tile-end.ensures.within, c.loop-t-test.true)
-
 pub loop-t-preserved : goal.loop-t-preserved
 loop-t-preserved c =
     (c.loop-t.invariant.0, done_step c.loop-t.invariant.1 (omega (arith, c.end_of_tile-end.ensures.further)) c.end_of_tile-end.ensures.within c.lay_path.auto.bytes c.lay_path.ensures)
-
-pub shape_of-bytes : goal.shape_of-bytes
-shape_of-bytes c = c.loop-t.invariant.1.as_long
-
-pub returns : goal.returns
-returns c = done_end c.loop-t.invariant.1 c.loop-t-test.false
