@@ -1,11 +1,10 @@
 -- The array's front holds the path's coordinates.
 use Prim.Native.Nat.{◌/◌}
-use mathlib.Core.Path.{◌≡◌, sym, ap, ◌∙◌}
+use mathlib.Core.Path.{◌≡◌, ap, ◌∙◌}
 use mathlib.Core.List.{List}
 use lib.ListN.{length, take}
 use lib.IntN.{ℤ}
 use Rattle.wire.specs.Read.{entries_of}
-use Rattle.wire.proofs.Entries.{entries_length}
 use Rattle.wire.proofs.Laws.{decoded_front}
 use Rattle.host_band.specs.Call.{entries_call}
 use Rattle.host_band.proofs.answer.decoded.Goals as goal
@@ -17,9 +16,6 @@ front c = take (length c.args.path.now / 4) c.decode.new.entries
 front_is : (c : After-decode) → front c ≡ entries_of c.args.path.now
 front_is c =
     ap (take (length c.args.path.now / 4)) c.decode.ensures ∙ decoded_front c.args.path.now c.args.entries.now c.requires
-
-pub slice_bounds-of_entries-end-2 : goal.slice_bounds-of_entries-end-2
-slice_bounds-of_entries-end-2 c = sym (ap length (front_is (goal.at.slice_bounds-of_entries-end-2 c).After-decode) ∙ entries_length c.args.path.now)
 
 pub returns : goal.returns
 returns c =

@@ -6,7 +6,6 @@ use Rattle.limits.specs.Refusal as refusal
 use Rattle.limits.proofs.Verdicts.{unless_true, unless_refused}
 use Rattle.wire.specs.Read.{entries_of}
 use Rattle.outcome.specs.Read.{is_path}
-use Rattle.outcome.proofs.Verdicts.{bytes_short}
 use Rattle.setting.specs.declared.Checked.TheVariants.{Taken}
 use Rattle.setting.specs.Answer.{checked}
 use Rattle.host_band.specs.Call.{setting, entries_call, bytes_call}
@@ -45,9 +44,6 @@ returns-in_default-of_bytes c =
 
 pub returns-then-path-le-SHORT_BYTES : goal.returns-then-path-le-SHORT_BYTES
 returns-then-path-le-SHORT_BYTES c = c.short.ensures ∙ rest (goal.at.returns-then-path-le-SHORT_BYTES c).In-Passed
-
-pub long-requires : goal.long-requires
-long-requires c = bytes_short c.args.path.now (read (goal.at.long-requires c).In-Passed)
 
 pub returns : goal.returns
 returns c = c.long.ensures ∙ rest (goal.at.returns c).In-Passed
