@@ -57,6 +57,15 @@ module _ {g : Ends} (near : Near g) {X Y X' Y' : ℤ} (P : Corner X Y) (Q : Corn
       Is w64 (max_z (out_to (g.bx -ℤ g.ax) (g.by -ℤ g.ay)) (pos 0)) (bits r) (2 ^ 29)
   further e = max_is to_B (weaken (leb→le _ _ tt) (num (pos 0) tt)) e
 
+pub returns-clause-answer : goal.returns-clause-answer
+returns-clause-answer c =
+    let r = c.requires in
+    let s = c.args in
+    let side : ℤ → ℤ → ℤ → Side = λ a b c. record { a = a; b = b; c = c } in
+    let line = (add (at_A r.near r.from r.to) (further r.near r.from r.to c.max-further.ensures) tt).reads
+    ∙ moved_at (s.qy -ℤ s.py) (s.px -ℤ s.qx) s.px s.py s.g.ax s.g.ay s.g.bx s.g.by in
+    c.narrow.ensures.answer ∙ ap (λ (e : Side). narrow (pos 0) e (left s.s)) (ap₃ side (a r.near r.from r.to).reads (b r.near r.from r.to).reads line)
+
 pub overflow_mul-at_a-2 : goal.overflow_mul-at_a-2
 overflow_mul-at_a-2 c = let r = c.requires in mul_fits (a r.near r.from r.to) (x_at r.near r.from r.to) tt
 
@@ -89,12 +98,3 @@ narrow-requires-clause-side c =
       num_small = abs_le (leb→le _ _ tt) (bound (add (at_A r.near r.from r.to) (further r.near r.from r.to c.max-further.ensures) tt));
       by_small = abs_le (leb→le _ _ tt) (bound (a r.near r.from r.to));
     }
-
-pub returns-clause-answer : goal.returns-clause-answer
-returns-clause-answer c =
-    let r = c.requires in
-    let s = c.args in
-    let side : ℤ → ℤ → ℤ → Side = λ a b c. record { a = a; b = b; c = c } in
-    let line = (add (at_A r.near r.from r.to) (further r.near r.from r.to c.max-further.ensures) tt).reads
-    ∙ moved_at (s.qy -ℤ s.py) (s.px -ℤ s.qx) s.px s.py s.g.ax s.g.ay s.g.bx s.g.by in
-    c.narrow.ensures.answer ∙ ap (λ (e : Side). narrow (pos 0) e (left s.s)) (ap₃ side (a r.near r.from r.to).reads (b r.near r.from r.to).reads line)
