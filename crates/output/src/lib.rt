@@ -133,6 +133,8 @@ fn write_rest(
 // Writes the rows of the drawing's film from row `first` on, n of them, as a film of their own: the header and
 // then the rows, the top one first. Answers whether all was written. A refusal, which a row that the film
 // has not is too (5), is told in the name of the program, and nothing is written.
+// No tactic looks at this function's goals: each would write the buffer out, byte by byte.
+#[tactic(none)]
 pub fn write(
     to: Stdout,
     told: Stderr,
