@@ -1,6 +1,6 @@
 -- The legend's text, read at once: by a reader at the start of a file, with the table of the settings, into lists of zeros.
 use Prim.Native.Nat.{ℕ}
-use mathlib.Core.Path.{◌≡◌, refl, ap, ◌∙◌}
+use mathlib.Core.Path.{◌≡◌, refl}
 use mathlib.Core.Bool.{true, false}
 use mathlib.Core.List.{List}
 use lib.ListN.{replicate, set}
@@ -13,7 +13,7 @@ use Rattle.gerber.specs.declared.Reader.{Reader}
 use Rattle.gerber.specs.Reader.{finished}
 use Rattle.gather.specs.declared.Gathering.{Gathering}
 use Rattle.gather.specs.declared.Finished.TheVariants.{Done}
-use Rattle.gather.specs.Gather.{Gathered, Ended, begun, gathered, finishing}
+use Rattle.gather.specs.Gather.{Gathered, begun, gathered, finishing}
 use Rattle.film.specs.Legend.{settings, strokes, legend}
 
 -- what the bytes of a text leave

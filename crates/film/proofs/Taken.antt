@@ -1,6 +1,6 @@
 -- Every stroke of the legend is taken: its aperture is one of the table's, and its path is whole, short enough and within the limits.
 use native.Mathlib.Omega.{arith}
-use mathlib.Core.Path.{◌≡◌, refl}
+use mathlib.Core.Path.{refl}
 use Rattle.limits.specs.Sizes.{in_range}
 use Rattle.setting.specs.Setting.{taken}
 use Rattle.setting.specs.Answer.{checked}
