@@ -8,11 +8,11 @@ use Rattle.difference.proofs.words.of_words.Goals as goal
 pub loop-i-init : goal.loop-i-init
 loop-i-init c = (search rules, sym (count_none _))
 
+pub loop-i-preserved : goal.loop-i-preserved
+loop-i-preserved c = (omega arith, omega (arith, word_more c.args.a.now c.args.b.now c.loop-i.i))
+
 pub overflow_add-total : goal.overflow_add-total
 overflow_add-total c =
     let a = c.args in
     let i = c.loop-i.i in
     record { fits = omega (arith, word_more a.a.now a.b.now i, count_le (apart a.a.now a.b.now) (64 * (i + 1))) }
-
-pub loop-i-preserved : goal.loop-i-preserved
-loop-i-preserved c = (omega arith, omega (arith, word_more c.args.a.now c.args.b.now c.loop-i.i))

@@ -12,14 +12,6 @@ behind columns n e =
     let f : 8 * (8 * (columns / 64)) ≡ 64 * (columns / 64) = omega arith in
     ap₂ ◌-◌ m f
 
-pub put_bytes-requires-clause-room : goal.put_bytes-requires-clause-room
-put_bytes-requires-clause-room c =
-    let a = c.args in
-    let r = c.requires in
-    let past = 64 * (a.columns / 64) in
-    let room = room_left a.a.now a.b.now a.digits.now r.rows.short a.at 0 past (omega (arith, r.rows.few)) a.out.now c.put_words-next.ensures (a.columns - past) (omega (arith, r.room)) in
-    omega (arith, behind a.columns c.length_of.result c.length_of.ensures, room)
-
 pub returns : goal.returns
 returns c =
     let a = c.args in
@@ -29,3 +21,11 @@ returns c =
     more_behind a.a.now a.b.now a.digits.now r.rows.short a.at 0 past (omega (arith, r.rows.few)) a.out.now c.put_words-next.ensures
     past (a.columns - past) a.columns (omega arith) (omega arith) (omega (arith, r.rows.few)) r.room
     (c.put_bytes.ensures ∙ ap₂ (λ (f k : ℕ). put_at c.put_words-next.new.out c.put_words-next.result (columns_text a.a.now a.b.now a.digits.now f k)) first (behind a.columns c.length_of.result c.length_of.ensures))
+
+pub put_bytes-requires-clause-room : goal.put_bytes-requires-clause-room
+put_bytes-requires-clause-room c =
+    let a = c.args in
+    let r = c.requires in
+    let past = 64 * (a.columns / 64) in
+    let room = room_left a.a.now a.b.now a.digits.now r.rows.short a.at 0 past (omega (arith, r.rows.few)) a.out.now c.put_words-next.ensures (a.columns - past) (omega (arith, r.room)) in
+    omega (arith, behind a.columns c.length_of.result c.length_of.ensures, room)
