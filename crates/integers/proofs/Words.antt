@@ -11,7 +11,7 @@ use mir.Facts.{to_z-of_z}
 use Rattle.integers.specs.Bound.{Abs}
 use Rattle.integers.specs.Compare.{min_z, max_z}
 use Rattle.integers.proofs.Tests.{max_case, min_case}
-use Rattle.integers.proofs.Bound.{abs_fits}
+use Rattle.integers.proofs.Bound.{abs_fits, fits_abs}
 use Rattle.integers.proofs.Machine.{Is, got, num, sub, along}
 
 -- ---- what the machine computes of 64 bits
@@ -53,6 +53,13 @@ pub coordinate : {r x : ℤ} → SFits w8 x → (r ≡ to_z w8 (of_z w8 x)) × A
 coordinate f h =
     let e = h.0 ∙ to_z-of_z f in
     got (abs_fits h.1 tt) e (subst (λ (z : ℤ). Abs z 128) e h.1)
+
+-- the same of `i64::from(x)`
+pub widened : {r x : ℤ} → SFits w8 x → r ≡ to_z w8 (of_z w8 x) → Is w64 x (of_z w64 r) 128
+widened f e =
+    let h = e ∙ to_z-of_z f in
+    let small = fits_abs f in
+    got (subst (SFits w64) (sym h) (abs_fits small tt)) h small
 
 -- the opposite number
 pub opposite : {x : ℤ} {m n : ℕ} → Is w64 x m n → T (ltb (0 + n) (2 ^ hbits w64)) → Is w64 (neg_ℤ x) (bits (pos 0) ⊖ m) (0 + n)
