@@ -4,8 +4,8 @@
 --   Counting    how many numbers below n pass a test
 --   OneByte     the columns of one byte that are apart
 --   EightBytes  those of a word
---   SameWords   words that are there, and words that are the same
---   Rows        a row by its parts, and rows that are not there
+--   SameWords   words that are the same
+--   Rows        a row by its parts
 --   AllOnes     "the count of ones in the two rows' difference without spare bits"
 --   Theorems    the claims
 pub mod Counting

@@ -1,45 +1,21 @@
--- Words that are there, and words that are the same: then no column of theirs is apart.
+-- Words that are the same: no column of theirs is apart.
 use Prim.Native.Nat.{ℕ, zero, suc, ◌+◌, ◌-◌, ◌*◌, ◌/◌, ◌^◌, ◌≤◌, ◌<◌}
 use native.Mathlib.Nat.{add-zero}
 use native.Mathlib.Omega.{arith}
 use native.Mathlib.Decide.{dec_lt}
-use mathlib.Core.Path.{◌≡◌, refl, sym, ◌∙◌, subst}
-use mathlib.Core.Bool.{Bool, true, false, ◌&&◌}
+use mathlib.Core.Path.{◌≡◌, refl, subst}
+use mathlib.Core.Bool.{true, false}
 use mathlib.Core.List.{List}
-use borrow.Author.Tests.{leb-true, le-leb, lt-leb, eqb-true}
-use lib.Dec.{leb, eqb}
+use borrow.Author.Tests.{eqb-true}
+use lib.Dec.{eqb}
 use lib.ListN.{get_or}
-use Rattle.integers.proofs.Tests.{true_and, false_and, and_false, and_both, same_test}
+use Rattle.integers.proofs.Tests.{and_both}
 use Rattle.wire.specs.Read.{four_at, number_at}
 use Rattle.difference.specs.Apart.{apart}
 use Rattle.difference.specs.Code.{has_word, same_word}
 use Rattle.difference.proofs.OneByte.{Small, same_byte}
 use Rattle.difference.proofs.EightBytes.{four_small}
 
--- ---- words that are there
--- eight bytes, and those before `at`
-pub word_there : (n at : ℕ) → 8 ≤ n → leb at (n - 8) ≡ leb (at + 8) n
-word_there n at h = same_test (leb at (n - 8)) (leb (at + 8) n)
-    (λ e. le-leb (at + 8) n (omega (arith, leb-true at (n - 8) e)))
-    (λ e. le-leb at (n - 8) (omega (arith, leb-true (at + 8) n e)))
-
-pub no_word_there : (n at : ℕ) → n < 8 → leb 8 n ≡ leb (at + 8) n
-no_word_there n at h = lt-leb 8 n h ∙ sym (lt-leb (at + 8) n (omega arith))
-
-module _ (a b : List ℕ) (at : ℕ) where
-  abbrev equal : Bool
-  equal = eqb (number_at a at) (number_at b at)
-
-  pub not_in_first : has_word a at ≡ false → false ≡ same_word a b at
-  not_in_first e = false_and (has_word a at) (has_word b at && equal) e
-
-  pub not_in_second : has_word b at ≡ false → false ≡ same_word a b at
-  not_in_second e = sym (and_false (has_word a at) (has_word b at && equal) (sym (false_and (has_word b at) equal e)))
-
-  pub in_both : has_word a at ≡ true → has_word b at ≡ true → equal ≡ same_word a b at
-  in_both e f = true_and (has_word b at) equal f ∙ true_and (has_word a at) (has_word b at && equal) e
-
--- ---- words that are the same
 -- of two numbers that are equal both parts are
 lowest_byte : (p q P Q : ℕ) → p < 256 → q < 256 → p + 256 * P ≡ q + 256 * Q → (p ≡ q) × (P ≡ Q)
 lowest_byte p q P Q hp hq e = (omega arith, omega arith)

@@ -13,7 +13,7 @@ fn leftmost(x: u8, n: u32) -> u32
     requires few { n ≤ 8 }
     ensures { result ≡ ones (x / 2 ^ (8 - n)) }
 {
-    u8::count_ones(x >> (8 - n))
+    (x >> (8 - n)).count_ones()
 }
 
 // How many of the n leftmost pixels of byte k differ.
@@ -35,10 +35,8 @@ fn of_bytes(a: &[u8], b: &[u8], n: usize) -> u32
     ensures { result ≡ differing a.now b.now (8 * n) }
 {
     let mut total = crate::words::of_words(a, b, n / 8);
-    let mut k = n / 8 * 8;
-    while k < n {
+    for k in n / 8 * 8..n {
         total += of_byte(a, b, k, 8);
-        k += 1;
     }
     total
 }

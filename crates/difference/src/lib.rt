@@ -14,28 +14,17 @@ mod words;
 pub fn differing(a: &[u8], b: &[u8], columns: usize) -> u32
     ensures { result ≡ counted a.now b.now columns }
 {
-    if limits::RASTER_MAX < columns {
-        return 0;
-    }
     let length = bits::length_of(columns);
-    if a.len() < length {
-        return 0;
+    if columns <= limits::RASTER_MAX && length <= a.len() && length <= b.len() {
+        count::of_row(a, b, columns)
+    } else {
+        0
     }
-    if b.len() < length {
-        return 0;
-    }
-    count::of_row(a, b, columns)
 }
 
 // Whether the eight bytes from `at` on are the same in both; false where they are not all there.
 pub fn same_word(a: &[u8], b: &[u8], at: usize) -> bool
     ensures { result ≡ same_word a.now b.now at }
 {
-    if !words::has_word(a, at) {
-        return false;
-    }
-    if !words::has_word(b, at) {
-        return false;
-    }
-    words::word(a, at) == words::word(b, at)
+    words::has_word(a, at) && words::has_word(b, at) && words::word(a, at) == words::word(b, at)
 }

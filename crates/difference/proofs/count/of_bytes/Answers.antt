@@ -12,4 +12,4 @@ overflow_add-total c =
     record { fits = omega (arith, byte_more a.a.now a.b.now k, count_le (apart a.a.now a.b.now) (8 * (k + 1))) }
 
 pub loop-k-preserved : goal.loop-k-preserved
-loop-k-preserved c = (omega arith, omega (arith, byte_more c.args.a.now c.args.b.now c.loop-k.k))
+loop-k-preserved c = omega (arith, byte_more c.args.a.now c.args.b.now c.loop-k.k)
