@@ -1,20 +1,25 @@
 -- A span laid over bytes: the columns that its first byte has, those of whole bytes, and those that its last byte has, one after the other.
-use Prim.Native.Nat.{ℕ, ◌+◌, ◌-◌, ◌*◌, ◌/◌, ◌%◌, ◌≤◌, ◌<◌, min, max}
+use Prim.Native.Nat.{ℕ, ◌+◌, ◌-◌, ◌*◌, ◌/◌, ◌%◌, ◌≤◌, ◌<◌, min}
 use native.Mathlib.Omega.{arith}
 use native.Mathlib.Decide.{dec_le, dec_lt}
 use mathlib.Core.Path.{◌≡◌, refl, sym, ap, ap₂, ◌∙◌}
-use mathlib.Core.Logic.{inl, inr}
+use mathlib.Core.Logic.{◌⊎◌, inl, inr}
 use mathlib.Core.Bool.{Bool, true, false, ◌||◌}
 use mathlib.Core.List.{List}
-use borrow.Author.Tests.{eqb-true, eq-eqb, ne_eqb}
-use lib.Bits.{bit_or}
+use borrow.Author.Tests.{eq-eqb}
+use lib.Bits.{bit_or, or_add_and, or_zero_r}
 use lib.Dec.{eqb}
-use lib.ListN.{length, get_or, set}
+use lib.ListN.{length, get_or, set, replicate}
+use borrow.Rule.Slice.PartMut.{put_mid}
+use borrow.Author.Rules.{rules}
+use Rattle.std.proofs.lemmas.List.{places}
+use Rattle.std.proofs.lemmas.Nat.{and_mask}
+use Rattle.std.proofs.lemmas.Bool.{cases_lt}
 use Rattle.integers.proofs.Tests.{clash, same_test}
 use Rattle.bits.specs.Bits.{bits_from, span, blackened}
 use Rattle.bits.proofs.Tests.{one_of, first_of, second_of, in_span, is_in_span}
-use Rattle.bits.proofs.Bytes.{bits_ext}
-use Rattle.bits.proofs.Blackened.{blackened_ext, blackened_none, blackened_byte, blackened_twice}
+use Rattle.bits.proofs.Bytes.{bits_ext, clear_bits}
+use Rattle.bits.proofs.Blackened.{same_bytes, blackened_none, blackened_byte, blackened_twice}
 
 -- a span without columns leaves the bytes
 pub span_empty : (left end : ℕ) (b : List ℕ) → end ≤ left → b ≡ blackened (span left end) b
@@ -40,36 +45,45 @@ module _ (k l e : ℕ) (few : e ≤ 8) where
   pub byte_past : (b : List ℕ) → length b ≤ k → b ≡ blackened part b
   byte_past b h = blackened_none part b (λ x m. out_of_byte x (λ q. omega (arith, h, m, q)))
 
--- ---- whole bytes, one more at a time
--- all eight columns of byte k
-whole : (k : ℕ) → 255 ≡ bits_from (λ x. eqb (x / 8) k) (8 * k) 8 0
-unfolding bits_from
-whole k = sym (bits_ext (λ x. eqb (x / 8) k) (λ _. true) 8 (8 * k) 0 0 (λ b l. in_byte k b l))
+-- ---- whole bytes
+-- a byte with all eight columns laid over it has them all
+all_black : (x : ℕ) → x < 256 → bit_or x 255 ≡ 255
+all_black x h = let s = or_add_and x 255 in let m = and_mask x 8 in omega arith
 
-one_more : (first k x : ℕ) → first ≤ k → (span (8 * first) (8 * k) x || eqb (x / 8) k) ≡ span (8 * first) (8 * (k + 1)) x
-one_more first k x h = same_test _ _
-    (λ q. elim (one_of (span (8 * first) (8 * k) x) (eqb (x / 8) k) q) [
-      | inl p ↦ (let s = in_span (8 * first) (8 * k) x p in is_in_span (8 * first) (8 * (k + 1)) x s.0 (omega (arith, s.1)))
-      | inr p ↦ (let s = eqb-true (x / 8) k p in is_in_span (8 * first) (8 * (k + 1)) x (omega arith) (omega arith))
-    ])
-    (λ q. let s = in_span (8 * first) (8 * (k + 1)) x q in elim (dec_lt x (8 * k)) [
-      | yes l ↦ first_of (span (8 * first) (8 * k) x) (eqb (x / 8) k) (is_in_span (8 * first) (8 * k) x s.0 l)
-      | no l ↦ second_of (span (8 * first) (8 * k) x) (eqb (x / 8) k) (eq-eqb (x / 8) k (omega (arith, s.1)))
-    ])
+module _ (first last : ℕ) where
+  abbrev middle_of : ℕ → Bool
+  middle_of = span (8 * first) (8 * last)
 
-pub bytes_more : (first k : ℕ) (b : List ℕ) {c : List ℕ} → first ≤ k → c ≡ blackened (span (8 * first) (8 * k)) b →
-    set c k (bit_or (get_or c k 0) 255) ≡ blackened (span (8 * first) (8 * (k + 1))) b
-bytes_more first k b {c} h e =
-    blackened_byte (λ x. eqb (x / 8) k) c k (λ x p. ne_eqb (x / 8) k p) (whole k)
-    ∙ ap (blackened (λ x. eqb (x / 8) k)) e
-    ∙ blackened_twice (span (8 * first) (8 * k)) (λ x. eqb (x / 8) k) (span (8 * first) (8 * (k + 1))) b (λ x. one_more first k x h)
+  -- all columns of the bytes from `first` on and before `last`, and none of any other
+  whole_byte : (k : ℕ) → first ≤ k → k < last → bits_from middle_of (8 * k) 8 0 ≡ 255
+  unfolding bits_from
+  whole_byte k h l = bits_ext middle_of (λ _. true) 8 (8 * k) 0 0 (λ b q. is_in_span (8 * first) (8 * last) (8 * k + b) (omega arith) (omega arith))
 
--- where the last of them, or the last of the bytes, is reached
-pub bytes_end : (first k last : ℕ) (b : List ℕ) → k ≤ max first last → (k < last → length b ≤ k) →
-    blackened (span (8 * first) (8 * k)) b ≡ blackened (span (8 * first) (8 * last)) b
-bytes_end first k last b h l = blackened_ext (span (8 * first) (8 * k)) (span (8 * first) (8 * last)) b (λ x m. same_test _ _
-    (λ q. let s = in_span (8 * first) (8 * k) x q in is_in_span (8 * first) (8 * last) x s.0 (omega arith))
-    (λ q. let s = in_span (8 * first) (8 * last) x q in is_in_span (8 * first) (8 * k) x s.0 (elim (dec_lt k last) [ yes p ↦ omega (arith, l p) | no p ↦ omega (arith, s.1) ])))
+  no_byte : (k : ℕ) → (k < first) ⊎ (last ≤ k) → bits_from middle_of (8 * k) 8 0 ≡ 0
+  no_byte k h = clear_bits middle_of (8 * k) 8 (λ b q. same_test (middle_of (8 * k + b)) false
+      (λ t. let s = in_span (8 * first) (8 * last) (8 * k + b) t in absurd (elim h [ inl l ↦ omega arith | inr l ↦ omega arith ])) (λ t. absurd (clash t refl)))
+
+  -- the bytes that there are of them are filled
+  pub bytes_filled : (b : List ℕ) (n : ℕ) → ((k : ℕ) → k < length b → get_or b k 0 < 256) → n ≡ min last (length b) → first < n →
+      put_mid first (n - first) b (replicate (n - first) 255) ≡ blackened (span (8 * first) (8 * last)) b
+  bytes_filled b n small e h = same_bytes middle_of b (put_mid first (n - first) b (replicate (n - first) 255)) (search (rules, places)) at
+    where
+      at : (k : ℕ) → k < length b → get_or (put_mid first (n - first) b (replicate (n - first) 255)) k 0 ≡ bit_or (get_or b k 0) (bits_from middle_of (8 * k) 8 0)
+      at k l = elim (cases_lt k first) [
+        | inl p ↦ (let q : get_or (put_mid first (n - first) b (replicate (n - first) 255)) k 0 ≡ get_or b k 0 = search (rules, places) in
+            q ∙ sym (ap (bit_or (get_or b k 0)) (no_byte k (inl p)) ∙ or_zero_r (get_or b k 0)))
+        | inr p ↦ elim (cases_lt k n) [
+          | inl r ↦ (let q : get_or (put_mid first (n - first) b (replicate (n - first) 255)) k 0 ≡ 255 = search (rules, places) in
+              q ∙ sym (ap (bit_or (get_or b k 0)) (whole_byte k p (omega arith)) ∙ all_black (get_or b k 0) (small k l)))
+          | inr r ↦ (let q : get_or (put_mid first (n - first) b (replicate (n - first) 255)) k 0 ≡ get_or b k 0 = search (rules, places) in
+              q ∙ sym (ap (bit_or (get_or b k 0)) (no_byte k (inr (omega arith))) ∙ or_zero_r (get_or b k 0)))
+        ]
+      ]
+
+  -- where there are none the bytes stay
+  pub bytes_absent : (b : List ℕ) → min last (length b) ≤ first → b ≡ blackened (span (8 * first) (8 * last)) b
+  bytes_absent b h = blackened_none middle_of b (λ x l. same_test (middle_of x) false
+      (λ t. let s = in_span (8 * first) (8 * last) x t in absurd (omega arith)) (λ t. absurd (clash t refl)))
 
 -- ---- the span by its bytes
 module _ (left end : ℕ) (h : left < end) where

@@ -11,7 +11,7 @@ mod spans;
 pub fn length_of(columns: usize) -> usize
     ensures { result ≡ packed_length columns }
 {
-    columns / 8 + (columns % 8 + 7) / 8
+    columns.div_ceil(8)
 }
 
 // Whether column x is black. Past the bytes none is.
@@ -19,10 +19,7 @@ pub fn is_black(bytes: &[u8], x: usize) -> bool
     ensures { result ≡ bit_at bytes.now x }
 {
     let k = x / 8;
-    if k >= bytes.len() {
-        return false;
-    }
-    (bytes[k] >> (7 - x % 8)) % 2 == 1
+    k < bytes.len() && (bytes[k] >> (7 - x % 8)) % 2 == 1
 }
 
 // Blackens the columns from `left` on and before `end`, as far as the bytes go. Every other bit

@@ -3,8 +3,6 @@
 ghost use Rattle.std.specs.Prelude.{◌≡◌, ◌+◌, ◌*◌, ◌≤◌, ◌<◌};
 ghost use Rattle.bits.specs.Bits.{span, blackened};
 
-use integers::min_usize;
-
 // ONES[n] is the byte whose first n bits are clear and whose others are set.
 const ONES: [u8; 9] = [255, 127, 63, 31, 15, 7, 3, 1, 0];
 
@@ -24,11 +22,9 @@ fn lay_byte(bytes: &mut [u8], k: usize, l: usize, e: usize)
 fn lay_bytes(bytes: &mut [u8], first: usize, last: usize)
     ensures { bytes.new ≡ blackened (span (8 * first) (8 * last)) bytes.old }
 {
-    let n = min_usize(last, bytes.len());
-    let mut k = first;
-    while k < n {
-        bytes[k] |= 255;
-        k += 1;
+    let n = last.min(bytes.len());
+    if first < n {
+        bytes[first..n].fill(255);
     }
 }
 
@@ -39,7 +35,7 @@ pub fn lay_some(bytes: &mut [u8], left: usize, end: usize)
 {
     let first = left / 8;
     let last = (end - 1) / 8;
-    lay_byte(bytes, first, left % 8, min_usize(end - 8 * first, 8));
+    lay_byte(bytes, first, left % 8, (end - 8 * first).min(8));
     if first < last {
         lay_bytes(bytes, first + 1, last);
         lay_byte(bytes, last, 0, (end - 1) % 8 + 1);

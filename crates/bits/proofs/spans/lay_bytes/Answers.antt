@@ -1,21 +1,18 @@
--- One more byte is laid over; where the loop stops no byte is left.
-use Rattle.std.proofs.Common.{◌*◌, ◌∙◌, arith, rules}
-use Rattle.bits.proofs.SpanBytes.{span_empty, bytes_more, bytes_end}
+-- The bytes between the two are filled; where there are none nothing is laid over.
+use Rattle.std.proofs.Common.{◌≡◌, ◌-◌, ◌∙◌, ap, arith, rules, ℕ, length, take, drop, replicate, get_or, Fits, w8}
+use borrow.Rule.Slice.PartMut.{put_mid}
+use Rattle.std.proofs.lemmas.List.{places}
+use Rattle.bits.proofs.SpanBytes.{bytes_filled, bytes_absent}
 use Rattle.bits.proofs.spans.lay_bytes.Goals as goal
 
-pub loop-k-init : goal.loop-k-init
-loop-k-init c =
+pub returns-then-first-n : goal.returns-then-first-n
+returns-then-first-n c =
     let a = c.args in
-    (search rules, search rules, c.min_usize-n.ensures, search rules, span_empty (8 * a.first) (8 * a.first) a.bytes.now (omega arith))
+    let k = c.min-n.result - a.first in
+    let long : length (take k (drop a.first a.bytes.now)) ≡ k = search (rules, places) in
+    let filled = c.fill.ensures.after (λ y e. e) ∙ ap (λ (j : ℕ). replicate j 255) long in
+    ap (put_mid a.first k a.bytes.now) filled
+    ∙ bytes_filled a.first a.last a.bytes.now c.min-n.result (λ i h. let f : Fits w8 (get_or a.bytes.now i 0) = search rules in omega (arith, f.fits)) c.min-n.ensures c.if-first-n.true
 
-pub loop-k-preserved : goal.loop-k-preserved
-loop-k-preserved c =
-    let i = c.loop-k in
-    let a = c.args in
-    (omega arith, omega arith, i.invariant.2, search rules, bytes_more a.first i.k a.bytes.now i.invariant.0 i.invariant.4)
-
-pub returns : goal.returns
-returns c =
-    let i = c.loop-k in
-    let a = c.args in
-    i.invariant.4 ∙ bytes_end a.first i.k a.last a.bytes.now i.invariant.1 (λ h. omega arith)
+pub returns-else-first-n : goal.returns-else-first-n
+returns-else-first-n c = let a = c.args in bytes_absent a.first a.last a.bytes.now (omega (arith, c.min-n.ensures, c.if-first-n.false))

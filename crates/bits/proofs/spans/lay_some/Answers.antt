@@ -8,6 +8,6 @@ pub returns-then-first-last : goal.returns-then-first-last
 returns-then-first-last c =
     let a = c.args in
     let first : c.lay_byte.new.bytes ≡ blackened (span (8 * (a.left / 8) + a.left % 8) (8 * (a.left / 8) + min (a.end - 8 * (a.left / 8)) 8)) a.bytes.now =
-    c.lay_byte.ensures ∙ ap (λ (m : ℕ). blackened (span (8 * (a.left / 8) + a.left % 8) (8 * (a.left / 8) + m)) a.bytes.now) c.min_usize.ensures in
+    c.lay_byte.ensures ∙ ap (λ (m : ℕ). blackened (span (8 * (a.left / 8) + a.left % 8) (8 * (a.left / 8) + m)) a.bytes.now) c.min.ensures in
     c.lay_byte-then-first-last.ensures ∙ ap (blackened _) (c.lay_bytes.ensures ∙ ap (blackened _) first)
     ∙ span_several a.left a.end c.requires a.bytes.now c.if-first-last.true
