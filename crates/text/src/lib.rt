@@ -1,22 +1,9 @@
 // Pieces of text in a lent buffer, and numbers in decimal.
 #![tactic(auto)]
 
-ghost use Rattle.std.specs.Prelude.{◌≡◌, ◌+◌, ◌≤◌, leb, length};
-ghost use Rattle.std.proofs.Math.Seq.{paste};
+ghost use Rattle.std.specs.Prelude.{◌≡◌, ◌+◌, leb};
 ghost use Rattle.text.specs.Decimal.{decimal};
 ghost use Rattle.text.specs.Put.{put_at};
-
-// Stores the bytes of src from index at on.
-fn store(out: &mut [u8], at: usize, src: &[u8])
-    requires { at + length src.now ≤ length out.old }
-    ensures { out.new ≡ paste out.old at src.now (length src.now) }
-{
-    let mut i = 0;
-    while i < src.len() {
-        out[at + i] = src[i];
-        i += 1;
-    }
-}
 
 // Whether so many bytes fit from index at on into a buffer of that length. The sum of the first two
 // may be more than a usize holds.
@@ -34,8 +21,9 @@ pub fn put(out: &mut [u8], at: usize, src: &[u8]) -> usize
     if !fits(at, src.len(), out.len()) {
         return at;
     }
-    store(out, at, src);
-    at + src.len()
+    let end = at + src.len();
+    out[at..end].copy_from_slice(src);
+    end
 }
 
 // Puts the digits of n from index at on, as put does.
