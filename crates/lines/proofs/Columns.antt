@@ -1,8 +1,8 @@
 -- The lines of columns in a buffer: one column, and columns behind others.
 use Prim.Native.Nat.{ℕ, ◌+◌, ◌-◌, ◌*◌, ◌≤◌, ◌<◌, min}
 use native.Mathlib.Omega.{arith}
-use mathlib.Core.Path.{◌≡◌, sym, ap, ◌∙◌}
-use mathlib.Core.Bool.{Bool, true, false, not, cond, xor}
+use mathlib.Core.Path.{◌≡◌, refl, sym, ap, ◌∙◌}
+use mathlib.Core.Bool.{Bool, true, false, cond, xor, beq}
 use mathlib.Core.List.{List}
 use lib.ListN.{length, get_or}
 use Rattle.limits.specs.Sizes.{raster_max}
@@ -16,16 +16,20 @@ use Rattle.lines.specs.Held.{column_text, columns_text}
 use Rattle.lines.proofs.Texts.{column_shown, column_not, one_column as Texts·one-column, columns_few, columns_add, columns_none}
 
 -- ---- one column
--- whether two rows differ in a column, by what the first has there
-pub black_first : (s t : Bool) → s ≡ true → not t ≡ xor s t
+-- whether two rows differ in a column, by what each has there
+pub alike : (s t : Bool) → beq s t ≡ true → xor s t ≡ false
 unfolding xor
-black_first s true e = ap (λ (b : Bool). xor b true) (sym e)
-black_first s false e = ap (λ (b : Bool). xor b false) (sym e)
+alike true true e = refl
+alike true false e = sym e
+alike false true e = sym e
+alike false false e = refl
 
-pub clear_first : (s t : Bool) → s ≡ false → t ≡ xor s t
+pub unlike : (s t : Bool) → beq s t ≡ false → xor s t ≡ true
 unfolding xor
-clear_first s true e = ap (λ (b : Bool). xor b true) (sym e)
-clear_first s false e = ap (λ (b : Bool). xor b false) (sym e)
+unlike true true e = sym e
+unlike true false e = refl
+unlike false true e = refl
+unlike false false e = sym e
 
 module _ (a b digits out : List ℕ) (at i : ℕ) where
   pub no_column : apart a b i ≡ false → at ≤ length out → record { end = at; buffer = out } ≡ put_at out at (column_text a b digits i)

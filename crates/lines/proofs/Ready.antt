@@ -1,9 +1,8 @@
 -- A row that is there, and one that is not.
 use Prim.Native.Nat.{ℕ, ◌≤◌, ◌<◌}
-use native.Mathlib.Omega.{arith}
 use mathlib.Core.Path.{◌≡◌, sym, ap}
 use mathlib.Core.Bool.{Bool, true, false, cond, ◌&&◌}
-use mathlib.Core.List.{List, []}
+use mathlib.Core.List.{List}
 use lib.Dec.{leb}
 use lib.ListN.{length}
 use borrow.Author.Tests.{leb-true, ltb-true}
@@ -15,11 +14,11 @@ use Rattle.text.specs.Put.{put_at}
 use Rattle.lines.specs.Lines.{lines_text}
 use Rattle.lines.specs.Rows.{row_lines}
 use Rattle.lines.specs.Put.{text_room, is_whole, is_ready, row_put}
-use Rattle.lines.specs.Held.{Rows}
+use Rattle.lines.specs.Held.{Both}
 
 -- what a row that is ready has
 pub record Ready (a b : List ℕ) (columns j space : ℕ) : Type 0 where
-  pub rows : Rows a b [] columns
+  pub rows : Both a b columns
   pub row : j < raster_max
   pub room : text_room ≤ space
 
@@ -32,7 +31,7 @@ module _ (a b : List ℕ) (columns j : ℕ) where
       let r = and_both (leb w (length a)) (leb w (length b) && leb text_room room) q.1 in
       let s = and_both (leb w (length b)) (leb text_room room) r.1 in
       record {
-        rows = record { few = ((size_iff columns).0 p.0).few; first = leb-true _ _ r.0; second = leb-true _ _ s.0; short = omega arith };
+        rows = record { few = ((size_iff columns).0 p.0).few; first = leb-true _ _ r.0; second = leb-true _ _ s.0 };
         row = ltb-true _ _ q.0;
         room = leb-true _ _ s.1;
       }

@@ -2,7 +2,7 @@
 use Prim.Native.Nat.{ℕ, ◌+◌, ◌*◌, ◌≤◌}
 use native.Mathlib.Omega.{arith}
 use mathlib.Core.Path.{◌≡◌, sym, ap, ◌∙◌}
-use mathlib.Core.List.{List, [], ◌++◌, append-nil}
+use mathlib.Core.List.{List, ◌++◌, append-nil}
 use lib.ListN.{length}
 use borrow.Author.Tests.{le-leb}
 use Rattle.limits.specs.Sizes.{raster_max}
@@ -16,19 +16,19 @@ use Rattle.difference.proofs.Theorems.{few_differ}
 use Rattle.lines.specs.Lines.{row_text, lines_text}
 use Rattle.lines.specs.Rows.{row_lines}
 use Rattle.lines.specs.Put.{text_room}
-use Rattle.lines.specs.Held.{columns_text, Rows}
+use Rattle.lines.specs.Held.{columns_text, Both}
 use Rattle.lines.proofs.Texts.{row_few, columns_few, columns_none, pixels_text}
 
 -- where both rows are there their differing pixels are counted
-pub both_counted : (a b digits : List ℕ) (columns : ℕ) → Rows a b digits columns → counted a b columns ≡ differing a b columns
-both_counted a b digits columns h =
+pub both_counted : (a b : List ℕ) (columns : ℕ) → Both a b columns → counted a b columns ≡ differing a b columns
+both_counted a b columns h =
     rw (le-leb columns raster_max h.few, le-leb (packed_length columns) (length a) h.first, le-leb (packed_length columns) (length b) h.second)
 
 -- and are no more than the columns
-pub few_counted : (a b digits : List ℕ) (columns : ℕ) → Rows a b digits columns → counted a b columns ≤ raster_max
-few_counted a b digits columns h = omega (arith, both_counted a b digits columns h, few_differ a b columns, h.few)
+pub few_counted : (a b : List ℕ) (columns : ℕ) → Both a b columns → counted a b columns ≤ raster_max
+few_counted a b columns h = omega (arith, both_counted a b columns h, few_differ a b columns, h.few)
 
-module _ (a b out : List ℕ) (columns j : ℕ) (rows : Rows a b [] columns) (small : j ≤ raster_max) (room : text_room ≤ length out) where
+module _ (a b out : List ℕ) (columns j : ℕ) (rows : Both a b columns) (small : j ≤ raster_max) (room : text_room ≤ length out) where
   -- the text of the row: the line of its number, and the text of its columns
   pub lines_text_lem : row_text j (differing a b columns) ++ columns_text a b (decimal j) 0 columns ≡ lines_text (row_lines a b columns j)
   unfolding lines_text

@@ -14,9 +14,8 @@ unfoldable pub columns_text : List ℕ → List ℕ → List ℕ → ℕ → ℕ
 columns_text a b digits i zero = []
 columns_text a b digits i (suc n) = column_text a b digits i ++ columns_text a b digits (suc i) n
 
--- two packed rows that are there, of so many columns, and the digits of a row
-pub record Rows (a b digits : List ℕ) (columns : ℕ) : Type 0 where
+-- two packed rows that are there, of so many columns
+pub record Both (a b : List ℕ) (columns : ℕ) : Type 0 where
   pub few : columns ≤ raster_max
   pub first : packed_length columns ≤ length a
   pub second : packed_length columns ≤ length b
-  pub short : length digits ≤ 5

@@ -14,19 +14,15 @@ pub const TEXT_ROOM: usize = 229392;
 fn is_whole(length: usize, first: usize, second: usize, room: usize) -> bool
     ensures { result ≡ is_whole length first second room }
 {
-    length <= first && (length <= second && TEXT_ROOM <= room)
+    length <= first && length <= second && TEXT_ROOM <= room
 }
 
 fn is_ready(columns: u64, row: u64, first: usize, second: usize, room: usize) -> bool
     ensures { result ≡ is_ready columns row first second room }
 {
-    if !limits::is_size(columns) {
-        return false;
-    }
-    if limits::RASTER_MAX as u64 <= row {
-        return false;
-    }
-    is_whole(bits::length_of(columns as usize), first, second, room)
+    limits::is_size(columns)
+        && row < limits::RASTER_MAX as u64
+        && is_whole(bits::length_of(columns as usize), first, second, room)
 }
 
 // Puts the text of a row at the start of out: the line of its number, and a line for each pixel in
