@@ -1,13 +1,15 @@
 -- What is stored in a list of runs for one column more: the list that held the runs of the columns before it then holds the runs with it.
-use mathlib.Core.Path.{◌≡◌, refl, sym, ap, ◌∙◌}
+use mathlib.Core.Path.{◌≡◌, refl, sym, ap, subst, ◌∙◌}
 use mathlib.Core.Bool.{Bool, cond}
-use mathlib.Core.List.{List, [], ◌∷◌, ◌++◌}
+use mathlib.Core.List.{List, [], ◌∷◌, ◌++◌, map}
 use Prim.Native.Nat.{ℕ, suc, ◌+◌, ◌-◌, ◌*◌, ◌≤◌, ◌<◌}
 use native.Mathlib.Omega.{arith}
-use lib.ListN.{length, get_or, set, drop, length-append}
-use lib.Seq.{drop-cons}
+use lib.ListN.{length, get_or, set, take, drop, length-append}
+use lib.Seq.{take-suc, drop-cons}
+use Rattle.std.proofs.lemmas.List.{map-append, length-map, length-take-le}
 use Rattle.stroke.specs.Runs.{Run}
 use Rattle.row.specs.Answer.{flat, listed}
+use Rattle.row.specs.Together.{between}
 use Rattle.row.proofs.Grown.{Longer, last, more, Grown, clear, new, longer, column, longer_some, longer_length}
 
 -- ---- a run more
@@ -26,6 +28,17 @@ listed_new rs r l h =
     let d : drop n l ≡ get_or l n 0 ∷ get_or l (suc n) 0 ∷ drop (suc (suc n)) l = drop-cons l n 0 (omega arith) ∙ ap (λ t. get_or l n 0 ∷ t) (drop-cons l (suc n) 0 (omega arith)) in
     ap (λ k. flat (rs ++ (r ∷ [])) ++ drop k l) e ∙ stored_new rs r (get_or l n 0) (get_or l (suc n) 0) (drop (suc (suc n)) l)
     ∙ ap (λ t. set (set (flat rs ++ t) n r.left) (n + 1) r.right) (sym d)
+
+-- the next of a few
+pub listed_next : (few : List (ℕ × ℕ)) (k : ℕ) (d : ℕ × ℕ) → k < length few → (l : List ℕ) → 2 * length few ≤ length l →
+    listed (map between (take (suc k) few)) l ≡ set (set (listed (map between (take k few)) l) (2 * k) (get_or few k d).0) (2 * k + 1) (get_or few k d).1
+listed_next few k d h l r =
+    let rs = map between (take k few) in
+    let c = get_or few k d in
+    let n : length rs ≡ k = length-map (take k few) between ∙ length-take-le k few (omega arith) in
+    let e : map between (take (suc k) few) ≡ rs ++ (between c ∷ []) = ap (map between) (take-suc few k d h) ∙ map-append between (take k few) (c ∷ []) in
+    ap (λ (ss : List Run). listed ss l) e
+    ∙ subst (λ (m : ℕ). listed (rs ++ (between c ∷ [])) l ≡ set (set (listed rs l) (2 * m) c.0) (2 * m + 1) c.1) n (listed_new rs (between c) l (omega (arith, n, r)))
 
 -- ---- a later end of the last run
 stored_longer : {i : ℕ} {rs ss : List Run} (t : List ℕ) → Longer i rs ss → flat ss ++ t ≡ set (flat rs ++ t) (2 * length rs - 1) i

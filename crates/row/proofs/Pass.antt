@@ -14,8 +14,8 @@ use Rattle.stroke.proofs.Runs.{runs_few}
 use Rattle.cuts.specs.Cuts.{Bounded}
 use Rattle.row.specs.declared.runs.Pass.{Pass}
 use Rattle.row.specs.Answer.{flat, listed}
-use Rattle.row.specs.Pass.{before, PassedTo}
-use Rattle.row.proofs.Grown.{Grown, runs_grown, grown_length, grown_some}
+use Rattle.row.specs.Pass.{before, PassedTo, Listed}
+use Rattle.row.proofs.Grown.{Grown, runs_grown, grown_length, grown_some, runs_more}
 use Rattle.row.proofs.BoundedRuns.{runs_clear, black_first, runs_first}
 use Rattle.row.proofs.Listed.{stored, listed_grown}
 
@@ -46,9 +46,14 @@ passed_next {f} {i} {p} {q} h e = record {
 }
 
 -- a list that held the runs before column i holds those with it, once the column is written
-pub passed_listed : {f : ℕ → Bool} {i : ℕ} {p q : Pass} → PassedTo f i p → PassedTo f (suc i) q → (l : List ℕ) {m m' : List ℕ} → 2 * length (runs_of f (suc i)) ≤ length l →
-    m ≡ listed (runs_of f i) l → m' ≡ stored i p.black q.black p.count m → m' ≡ listed (runs_of f (suc i)) l
-passed_listed {f} {i} h k l r e w = w ∙ rw (e, h.blackness, k.blackness, h.counts) (sym (listed_grown l (runs_grown f i) r))
+pub passed_listed : {f : ℕ → Bool} {i : ℕ} {p q : Pass} → PassedTo f i p → PassedTo f (suc i) q → q.count ≡ cond (q.black && not p.black) (suc p.count) p.count →
+    (l m m' : List ℕ) → length m ≡ length l → Listed f i l m →
+    (2 * cond (q.black && not p.black) (suc p.count) p.count ≤ length m → m' ≡ stored i p.black q.black p.count m) → Listed f (suc i) l m'
+passed_listed {f} {i} {p} {q} h k c l m m' n e w = λ r.
+    let more = runs_more f i (suc i) (omega arith) in
+    let room : 2 * cond (q.black && not p.black) (suc p.count) p.count ≤ length m = omega (arith, c, k.counts, n, r) in
+    let held : m ≡ listed (runs_of f i) l = e (omega (arith, more, r)) in
+    w room ∙ rw (held, h.blackness, k.blackness, h.counts) (sym (listed_grown l (runs_grown f i) r))
 
 -- ---- a clear byte
 clear_column : (b : List ℕ) (k x : ℕ) → get_or b k 0 ≡ 0 → 8 * k ≤ x → x < 8 * k + 8 → bit_at b x ≡ false
@@ -80,3 +85,14 @@ listed_again rs ss l h =
     let g : 2 * length rs + m ≡ 2 * length ss = omega arith in
     ap (λ (t : List ℕ). flat ss ++ t)
     (ap (λ (n : ℕ). drop n (listed rs l)) e ∙ drop-append-add (flat rs) (drop (2 * length rs) l) m ∙ drop-drop m (2 * length rs) l ∙ ap (λ (n : ℕ). drop n l) g)
+
+-- so a list that holds the runs of the first i columns over another holds them over itself
+pub listed_itself : (f : ℕ → Bool) (i : ℕ) (l m : List ℕ) → length m ≡ length l → Listed f i l m → Listed f i m m
+listed_itself f i l m n e = λ r. let held : m ≡ listed (runs_of f i) l = e (omega (arith, n, r)) in rw held (sym (listed_again (runs_of f i) (runs_of f i) l (omega arith)))
+
+-- and those of more columns over either
+pub listed_on : (f : ℕ → Bool) (i j : ℕ) → i ≤ j → (l m k : List ℕ) → length m ≡ length l → Listed f i l m → Listed f j m k → Listed f j l k
+listed_on f i j h l m k n e g = λ r.
+    let more = runs_more f i j h in
+    let held : m ≡ listed (runs_of f i) l = e (omega (arith, more, r)) in
+    g (omega (arith, n, r)) ∙ ap (listed (runs_of f j)) held ∙ listed_again (runs_of f i) (runs_of f j) l more

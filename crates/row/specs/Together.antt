@@ -7,6 +7,10 @@ use Rattle.stroke.specs.Runs.{Run}
 abbrev pub Inside : ℕ → ℕ → Type 0
 Inside left right = (left < raster_max) × (right < raster_max)
 
+-- the run between them
+abbrev pub between : ℕ × ℕ → Run
+between r = record { left = r.0; right = r.1 }
+
 -- "so touching ones are joined": two only where a clear column is between them, the left one first
 abbrev pub together : Run → Run → List Run
 together r s =

@@ -2,7 +2,7 @@
 //
 // Most rows are touched by two segments at most, and need no bytes. Where several touch a row they
 // are laid over the bytes of one, and the runs are those of its bits.
-ghost use Rattle.std.specs.Prelude.{◌≡◌, [], ◌∷◌, ◌*◌, ◌≤◌, ◌<◌, length};
+ghost use Rattle.std.specs.Prelude.{◌≡◌, [], ◌∷◌, map, All, ◌*◌, ◌≤◌, ◌<◌, length};
 ghost use Rattle.limits.specs.Sizes.{raster_max, Drawable};
 ghost use Rattle.limits.specs.declared.Verdict.TheVariants.{Passed};
 ghost use Rattle.plane.specs.Point.{corners};
@@ -11,43 +11,36 @@ ghost use Rattle.bits.specs.Bits.{bit_at};
 ghost use Rattle.cuts.specs.Cuts.{Bounded};
 ghost use Rattle.checks.specs.Answer.{given};
 ghost use Rattle.row.specs.Answer.{runs_offer, row_given};
-ghost use Rattle.row.specs.Together.{Inside, together};
+ghost use Rattle.row.specs.Together.{Inside, between, together};
 
-use crate::runs::{count_runs, write_both, write_one, write_runs};
+use crate::runs::{list_runs, write_run};
 use checks::Answer;
 use cuts::Touch;
-use integers::{max_usize, min_usize};
 use limits::Verdict;
 
 // How many bytes the longest row fills.
 const ROW_BYTES: usize = limits::RASTER_MAX / 8;
 
-// A row of one run.
+// A row of a few runs.
+fn write_few(runs: &mut [u16], few: &[(usize, usize)]) -> Answer
+    requires { All (λ r. Inside r.0 r.1) few.now }
+    ensures { record { answer = result; list = runs.new } ≡ given Passed (runs_offer (map between few.now) runs.old) }
+{
+    let room = checks::room_check(few.len(), runs.len() / 2);
+    let Verdict::Passed = room else {
+        return checks::report(room);
+    };
+    for (k, r) in few.iter().enumerate() {
+        write_run(runs, k, r.0, r.1);
+    }
+    checks::done(few.len())
+}
+
 fn write_single(runs: &mut [u16], left: usize, right: usize) -> Answer
     requires { Inside left right }
     ensures { record { answer = result; list = runs.new } ≡ given Passed (runs_offer (record { left = left; right = right } ∷ []) runs.old) }
 {
-    let room = checks::room_check(1, runs.len() / 2);
-    let Verdict::Passed = room else {
-        return checks::report(room);
-    };
-    write_one(runs, left, right);
-    checks::done(1)
-}
-
-// A row of two runs.
-fn write_pair(runs: &mut [u16], a: usize, b: usize, c: usize, d: usize) -> Answer
-    requires first { Inside a b }
-    requires second { Inside c d }
-    ensures { record { answer = result; list = runs.new }
-        ≡ given Passed (runs_offer (record { left = a; right = b } ∷ record { left = c; right = d } ∷ []) runs.old) }
-{
-    let room = checks::room_check(2, runs.len() / 2);
-    let Verdict::Passed = room else {
-        return checks::report(room);
-    };
-    write_both(runs, a, b, c, d);
-    checks::done(2)
+    write_few(runs, &[(left, right)])
 }
 
 // A row of two segments, one from a to b, the other from c to d. They come in the path's order, and
@@ -59,12 +52,12 @@ fn write_two(runs: &mut [u16], a: usize, b: usize, c: usize, d: usize) -> Answer
         ≡ given Passed (runs_offer (together (record { left = a; right = b }) (record { left = c; right = d })) runs.old) }
 {
     if b + 1 < c {
-        return write_pair(runs, a, b, c, d);
+        return write_few(runs, &[(a, b), (c, d)]);
     }
     if d + 1 < a {
-        return write_pair(runs, c, d, a, b);
+        return write_few(runs, &[(c, d), (a, b)]);
     }
-    write_single(runs, min_usize(a, c), max_usize(b, d))
+    write_single(runs, a.min(c), b.max(d))
 }
 
 // The runs are counted before any is written, so that a refusal leaves the list as it was.
@@ -74,12 +67,12 @@ fn write_bits(runs: &mut [u16], bytes: &[u8], first: usize, end: usize) -> Answe
     requires bounded { Bounded (bit_at bytes.now) first end }
     ensures { record { answer = result; list = runs.new } ≡ given Passed (runs_offer (runs_of (bit_at bytes.now) end) runs.old) }
 {
-    let count = count_runs(bytes, first, end);
+    let count = list_runs(bytes, first, end, &mut []);
     let room = checks::room_check(count, runs.len() / 2);
     let Verdict::Passed = room else {
         return checks::report(room);
     };
-    write_runs(bytes, first, end, runs);
+    list_runs(bytes, first, end, runs);
     checks::done(count)
 }
 
