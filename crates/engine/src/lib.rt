@@ -28,6 +28,22 @@ pub struct Engine {
     pub row: u16,
 }
 
+impl Engine {
+    // One row up.
+    fn next(self) -> Engine
+        requires { self.row < self.rows }
+        ensures { result ≡ next self }
+    {
+        let row = self.row + 1;
+        let flanks = flanks::rise(self.flanks, &self.pen.x, &self.pen.y, self.pen.count, row);
+        Engine {
+            flanks,
+            row,
+            ..self
+        }
+    }
+}
+
 // What starting answers. On a refusal the engine has no rows.
 #[derive(Drop)]
 pub struct Started {
@@ -84,11 +100,11 @@ fn engine_of(pen: Pen, path: &[i32], columns: u16, rows: u16, row: u16) -> Engin
     );
     let flanks = flanks::rise(begun, &pen.x, &pen.y, pen.count, row);
     Engine {
-        pen: pen,
-        flanks: flanks,
-        columns: columns,
-        rows: rows,
-        row: row,
+        pen,
+        flanks,
+        columns,
+        rows,
+        row,
     }
 }
 
@@ -132,22 +148,6 @@ fn write_cut(runs: &mut [u16], c: Cut) -> Answer
     checks::done(1)
 }
 
-fn next(e: Engine) -> Engine
-    requires { e.row < e.rows }
-    ensures { result ≡ next e }
-{
-    let row = e.row + 1;
-    let pen = e.pen;
-    let flanks = flanks::rise(e.flanks, &pen.x, &pen.y, pen.count, row);
-    Engine {
-        pen: pen,
-        flanks: flanks,
-        columns: e.columns,
-        rows: e.rows,
-        row: row,
-    }
-}
-
 // The runs of the row in which the engine stands, as left and right columns alternating: one, or
 // none. Past the last row it is refused with 5, and for lack of room with 7.
 #[tactic(auto, using(crate::proofs::StepCases::step_past, crate::proofs::StepCases::step_written))]
@@ -155,7 +155,7 @@ pub fn step(e: Engine, runs: &mut [u16]) -> Stepped
     ensures answer { record { answer = result.answer; list = runs.new } ≡ step_result e runs.old }
     ensures engine { result.engine ≡ stepped e runs.old }
 {
-    let checked = checks::row_check(e.rows as u64, e.row as u64);
+    let checked = checks::row_check(u64::from(e.rows), u64::from(e.row));
     let Verdict::Passed = checked else {
         return Stepped {
             answer: checks::report(checked),
@@ -164,13 +164,10 @@ pub fn step(e: Engine, runs: &mut [u16]) -> Stepped
     };
     let answer = write_cut(runs, flanks::between(e.flanks, e.row, e.columns));
     if answer.refusal != limits::DONE {
-        return Stepped {
-            answer: answer,
-            engine: e,
-        };
+        return Stepped { answer, engine: e };
     }
     Stepped {
-        answer: answer,
-        engine: next(e),
+        answer,
+        engine: e.next(),
     }
 }
