@@ -1,15 +1,15 @@
 -- The bytes of a row that was cleared and that the segments were laid over: those of the columns that the path blackens.
-use mathlib.Core.Path.{◌≡◌, ap, ◌∙◌}
+use mathlib.Core.Path.{◌≡◌, sym, ap, ap₂, ◌∙◌}
 use mathlib.Core.Bool.{Bool, false}
 use mathlib.Core.List.{List, ◌++◌}
-use Prim.Native.Nat.{ℕ}
+use Prim.Native.Nat.{ℕ, ◌≤◌}
 use native.Mathlib.Omega.{arith}
 use lib.IntN.{ℤ, pos}
-use lib.ListN.{length, drop, length-append}
+use lib.ListN.{length, take, drop, replicate, length-append, length-take}
 use Rattle.limits.specs.Sizes.{Drawable}
 use Rattle.plane.specs.Point.{Pt}
 use Rattle.bits.specs.Bits.{packed_length, packed, laid_over}
-use Rattle.bits.proofs.Bytes.{packed_length_lem}
+use Rattle.bits.proofs.Bytes.{packed_length_lem, packed_clear}
 use Rattle.bits.proofs.Over.{over_packed, over_front}
 use Rattle.stroke.specs.Sweep.{path_points}
 use Rattle.stroke.specs.Runs.{black_at}
@@ -18,6 +18,13 @@ use Rattle.cuts.specs.Cuts.{laid}
 use Rattle.cuts.proofs.Segments.{drawable_near}
 use Rattle.cuts.proofs.Together.{laid_row}
 use Rattle.packed.specs.Packed.{packed_atop, packed_over}
+
+-- a buffer whose first bytes are filled with 0 holds the row with no black column
+pub row_cleared : (columns : ℕ) (b : List ℕ) {n : ℕ} {a : List ℕ} → n ≡ packed_length columns → packed_length columns ≤ length b → a ≡ replicate (length (take n b)) 0 →
+    a ++ drop n b ≡ packed_atop (λ _. false) columns b
+row_cleared columns b {n} e l f =
+    let long : length (take n b) ≡ packed_length columns = omega (arith, length-take n b) in
+    ap₂ (λ (x : List ℕ) (k : ℕ). x ++ drop k b) (f ∙ ap (λ (k : ℕ). replicate k 0) long ∙ sym (packed_clear columns)) e
 
 -- a row laid over a cleared one
 over_cleared : (f : ℕ → Bool) (columns : ℕ) (b : List ℕ) → laid_over (packed_atop (λ _. false) columns b) (packed f columns) ≡ packed_atop f columns b

@@ -1,27 +1,14 @@
 // One row of a path that has passed the checks, as a packed row: it is cleared, and the segments are
 // laid over it.
-ghost use Rattle.std.specs.Prelude.{◌≡◌, false, ◌≤◌, length};
+ghost use Rattle.std.specs.Prelude.{◌≡◌, ◌≤◌, length};
 ghost use Rattle.limits.specs.Sizes.{Drawable};
 ghost use Rattle.limits.specs.declared.Verdict.TheVariants.{Passed};
 ghost use Rattle.bits.specs.Bits.{packed_length};
 ghost use Rattle.plane.specs.Point.{corners};
-ghost use Rattle.packed.specs.Packed.{packed_atop, packed_over, packed_given};
+ghost use Rattle.packed.specs.Packed.{packed_over, packed_given};
 
 use checks::Answer;
 use limits::Verdict;
-
-// The row with no black column.
-fn pack_none(bytes: &mut [u8], columns: usize)
-    requires { packed_length columns ≤ length bytes.old }
-    ensures { bytes.new ≡ packed_atop (λ _. false) columns bytes.old }
-{
-    let n = bits::length_of(columns);
-    let mut k = 0;
-    while k < n {
-        bytes[k] = 0;
-        k += 1;
-    }
-}
 
 // The packed row, cut to the raster.
 fn pack_row<'a>(
@@ -37,7 +24,7 @@ fn pack_row<'a>(
     requires drawable { Drawable path.now columns row }
     ensures { bytes.new ≡ packed_over (corners count xs.now ys.now) path.now columns row bytes.old }
 {
-    pack_none(bytes, columns);
+    bytes[..bits::length_of(columns)].fill(0);
     cuts::lay_over(bytes, xs, ys, count, path, columns, row);
 }
 
