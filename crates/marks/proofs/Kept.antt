@@ -8,7 +8,7 @@ use Rattle.marks.specs.declared.Mark.{Mark}
 use Rattle.marks.specs.declared.Marks.{Marks}
 use Rattle.marks.specs.Marks.{next, first_mark, behind, past, advanced, mark_of}
 use Rattle.marks.specs.Theorems.{mark_at, Read, none, more, Kept, MarksKept, MarksAnyChunks, MarkTold}
-use Rattle.marks.proofs.Places.{past_none, past_cons, past_append}
+use Rattle.marks.proofs.Places.{past_append}
 
 -- ---- the place counts the bytes
 behind_at : (m : Mark) (b : ℕ) → (behind m b).at ≡ next m.at
@@ -19,10 +19,10 @@ behind_at m b = go (eqb b 10)
     go false = refl
 
 past_at : (m : Mark) (l : List ℕ) → m.at + length l < 2 ^ 64 → (past m l).at ≡ m.at + length l
-past_at m [] h = ap (λ (n : Mark). n.at) (past_none m) ∙ omega arith
+past_at m [] h = omega arith
 past_at m (b ∷ l) h =
     let one : (behind m b).at ≡ m.at + 1 = behind_at m b ∙ mod-eq_of_lt (omega arith) in
-    ap (λ (n : Mark). n.at) (past_cons m b l) ∙ past_at (behind m b) l (omega arith) ∙ omega arith
+    past_at (behind m b) l (omega arith) ∙ omega arith
 
 -- ---- one chunk more
 -- so many bytes of a list and of what follows it
@@ -63,7 +63,7 @@ module _ (bytes : List ℕ) (start : ℕ) (m : Marks) (k : Kept bytes start m) (
 
 -- ---- all chunks
 kept : {bytes : List ℕ} {start : ℕ} {m : Marks} → Read bytes start m → length bytes < 2 ^ 64 → Kept bytes start m
-kept (none start) h = record { end = sym (past_none first_mark); command = λ k. absurd (omega arith) }
+kept (none start) h = record { end = refl; command = λ k. absurd (omega arith) }
 kept (more {bytes} {start} {m} r chunk new w) h = step bytes start m (kept r (omega (arith, length-append bytes chunk))) chunk new h w
 
 pub marks_kept : MarksKept

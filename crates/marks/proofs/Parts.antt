@@ -1,5 +1,5 @@
 -- A chunk in two parts: the bytes before a command's first byte, and the others.
-use Rattle.std.proofs.Common.{◌≡◌, ℕ, ◌+◌, ◌-◌, ◌<◌, ◌≤◌, Bool, true, false, cond, ltb, leb, List, length, take, drop, sym, refl, ap, ◌∙◌, ap₂, arith, length-drop, take-append-drop, take_all, ltb-true, le-ltb, lt-ltb, le-leb, leb-true}
+use Rattle.std.proofs.Common.{◌≡◌, ℕ, ◌+◌, ◌-◌, ◌<◌, ◌≤◌, Bool, true, false, cond, ltb, leb, List, length, take, drop, sym, refl, ap, ◌∙◌, ap₂, arith, take-append-drop, ltb-true, le-ltb, lt-ltb, le-leb, leb-true}
 use native.Mathlib.Decide.{dec_lt}
 use borrow.Author.Tests.{lt-leb}
 use Rattle.integers.proofs.Tests.{and_both, and_true, false_and, and_false}
@@ -40,11 +40,11 @@ module _ (from n start : ℕ) where
 
 -- ---- the marks by them
 -- k bytes come before; the first part leads to `here`, and the other one on to `end`
-module _ (m : Marks) (chunk : List ℕ) (start k : ℕ) (e : k ≡ front_of m.end.at (length chunk) start) {here end : Mark} (f : here ≡ past m.end (take k chunk)) (g : end ≡ past here (take (length chunk - k) (drop k chunk))) where
+module _ (m : Marks) (chunk : List ℕ) (start k : ℕ) (e : k ≡ front_of m.end.at (length chunk) start) {here end : Mark} (f : here ≡ past m.end (take k chunk)) (g : end ≡ past here (drop k chunk)) where
   whole : end ≡ past m.end chunk
   whole =
       g
-      ∙ ap₂ past f (take_all (length chunk - k) (drop k chunk) (omega (arith, length-drop k chunk)))
+      ∙ ap (λ (n : Mark). past n (drop k chunk)) f
       ∙ sym (past_append m.end (take k chunk) (drop k chunk))
       ∙ ap (past m.end) (take-append-drop k chunk)
 

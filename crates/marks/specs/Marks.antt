@@ -1,5 +1,5 @@
 -- Where a byte of a file stands: its place, its line and its column; and what is kept of it while the file is read in chunks.
-use Rattle.std.specs.Prelude.{ℕ, ◌+◌, ◌-◌, ◌%◌, ◌^◌, Bool, cond, ◌&&◌, List, [], ◌∷◌, length, take, ◌==◌, nat_le, nat_lt}
+use Rattle.std.specs.Prelude.{ℕ, ◌+◌, ◌-◌, ◌%◌, ◌^◌, Bool, cond, ◌&&◌, List, fold, length, take, ◌==◌, nat_le, nat_lt}
 use Rattle.marks.specs.declared.Mark.{Mark}
 use Rattle.marks.specs.declared.Marks.{Marks}
 
@@ -18,9 +18,8 @@ behind m b =
     (record { at = next m.at; line = m.line; column = next m.column })
 
 -- behind bytes
-unfoldable pub past : Mark → List ℕ → Mark
-past m [] = m
-past m (b ∷ l) = past (behind m b) l
+abbrev pub past : Mark → List ℕ → Mark
+past m l = fold behind m l
 
 -- ---- in chunks
 -- byte `start` of the file is one of the n bytes from `from` on

@@ -5,7 +5,7 @@
 #![tactic(auto)]
 
 ghost use Rattle.std.specs.Prelude.{◌≡◌, length, ◌==◌};
-ghost use Rattle.marks.specs.Marks.{first_mark, behind, past, front_of, begun, advanced, mark_of};
+ghost use Rattle.marks.specs.Marks.{behind, past, front_of, begun, advanced, mark_of};
 
 // A byte's place in the file, from 0, with its line and its column.
 #[derive(Clone, Copy)]
@@ -22,23 +22,20 @@ pub struct Marks {
     pub end: Mark,
 }
 
-fn first() -> Mark
-    ensures { result ≡ first_mark }
-{
-    Mark {
-        at: 0,
-        line: 1,
-        column: 1,
-    }
-}
+// The file's first byte.
+const FIRST: Mark = Mark {
+    at: 0,
+    line: 1,
+    column: 1,
+};
 
 // Before the first byte of a file.
 pub fn begin() -> Marks
     ensures { result ≡ begun }
 {
     Marks {
-        command: first(),
-        end: first(),
+        command: FIRST,
+        end: FIRST,
     }
 }
 
@@ -46,18 +43,18 @@ pub fn begin() -> Marks
 fn behind(m: Mark, byte: u8) -> Mark
     ensures { result ≡ behind m byte }
 {
-    let at = std::num::wrapping_add_u64(m.at, 1);
+    let at = m.at.wrapping_add(1);
     if byte == b'\n' {
         return Mark {
-            at: at,
-            line: std::num::wrapping_add_u64(m.line, 1),
+            at,
+            line: m.line.wrapping_add(1),
             column: 1,
         };
     }
     Mark {
-        at: at,
-        line: m.line,
-        column: std::num::wrapping_add_u64(m.column, 1),
+        at,
+        column: m.column.wrapping_add(1),
+        ..m
     }
 }
 
@@ -65,14 +62,7 @@ fn behind(m: Mark, byte: u8) -> Mark
 fn past(m: Mark, bytes: &[u8]) -> Mark
     ensures { result ≡ past m bytes.now }
 {
-    let mut mark = m;
-    let mut i = 0;
-    while i < bytes.len() {
-        let next = behind(mark, bytes[i]);
-        mark = next;
-        i += 1;
-    }
-    mark
+    bytes.iter().fold(m, |mark, byte| behind(mark, *byte))
 }
 
 // How many bytes of a chunk, which starts at `from` in the file, come before byte `start` of the file. All
@@ -80,14 +70,10 @@ fn past(m: Mark, bytes: &[u8]) -> Mark
 fn before(chunk: &[u8], from: u64, start: u64) -> usize
     ensures { result ≡ front_of from (length chunk.now) start }
 {
-    if start < from {
-        return chunk.len();
+    match start.checked_sub(from) {
+        Some(k) => chunk.len().min(k as usize),
+        None => chunk.len(),
     }
-    let k = start - from;
-    if (chunk.len() as u64) < k {
-        return chunk.len();
-    }
-    k as usize
 }
 
 // A chunk has been read, and the last command that was begun starts at byte `start` of the file: in this
@@ -95,37 +81,25 @@ fn before(chunk: &[u8], from: u64, start: u64) -> usize
 pub fn advance(m: Marks, chunk: &[u8], start: u64) -> Marks
     ensures { result ≡ advanced m chunk.now start }
 {
-    let command = m.command;
-    let end = m.end;
-    let k = before(chunk, end.at, start);
-    let here = past(end, &chunk[..k]);
-    let behind = past(here, &chunk[k..]);
-    if k == chunk.len() {
-        return Marks {
-            command: command,
-            end: behind,
-        };
+    let (front, rest) = chunk.split_at(before(chunk, m.end.at, start));
+    let here = past(m.end, front);
+    let end = past(here, rest);
+    if rest.is_empty() {
+        return Marks { end, ..m };
     }
-    Marks {
-        command: here,
-        end: behind,
-    }
+    Marks { command: here, end }
 }
 
 // Whether a refusal's place is the file's end. Every other is a byte that has been read.
 pub fn is_end(m: Marks, place: u64) -> bool
     ensures { result ≡ (place == m.end.at) }
 {
-    let end = m.end;
-    place == end.at
+    place == m.end.at
 }
 
 // The mark of a refusal's place: the file's end, or else the last command's first byte.
 pub fn mark_of(m: Marks, place: u64) -> Mark
     ensures { result ≡ mark_of m place }
 {
-    if is_end(m, place) {
-        return m.end;
-    }
-    m.command
+    if is_end(m, place) { m.end } else { m.command }
 }
