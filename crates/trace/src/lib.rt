@@ -1,7 +1,7 @@
 // Points gathered into strokes in a lent path, one after another: what the readers of strokes share.
 #![tactic(auto)]
 
-ghost use Rattle.std.specs.Prelude.{◌≡◌, true, ◌+◌, ◌-◌, ◌<◌, length};
+ghost use Rattle.std.specs.Prelude.{◌≡◌, ◌+◌, ◌-◌, ◌<◌, length};
 ghost use Rattle.trace.specs.Trace.{nowhere, is_open, adds, is_longer, is_inside, is_fit, line_verdict, move_verdict, put2, lined, ended, moved};
 
 use limits::Verdict;
@@ -42,13 +42,13 @@ pub fn nowhere() -> Trace
 pub fn line_check(t: Trace, x: i32, y: i32, room: usize, place: u64) -> Verdict
     ensures { result ≡ line_verdict t x y room place }
 {
-    if is_longer(t) {
+    if t.is_longer() {
         return Verdict::Refused(limits::BAD_PATH, place);
     }
     if !is_inside(x, y) {
         return Verdict::Refused(limits::BAD_COORDINATE, place);
     }
-    if !is_fit(t, room) {
+    if !t.is_fit(room) {
         return Verdict::Refused(limits::NO_ROOM, place);
     }
     Verdict::Passed
@@ -56,30 +56,30 @@ pub fn line_check(t: Trace, x: i32, y: i32, room: usize, place: u64) -> Verdict
 
 // Adds a line to (x, y): its point, and before it the current point where no stroke is open. Where they
 // do not fit nothing is changed.
+#[tactic(auto, unfolding(crate::specs::Trace::lined))]
 pub fn line(t: Trace, x: i32, y: i32, path: &mut [i32]) -> Trace
     ensures { record { trace = result; entries = path.new } ≡ lined t x y path.old }
 {
-    if !is_fit(t, path.len()) {
+    if !t.is_fit(path.len()) {
         return t;
     }
-    let first = t.first;
     let at = t.filled;
-    if is_open(t) {
+    if t.is_open() {
         put(path, at, x, y);
         return Trace {
             placed: true,
-            x: x,
-            y: y,
-            first: first,
+            x,
+            y,
             filled: at + 2,
+            ..t
         };
     }
     put(path, at, t.x, t.y);
     put(path, at + 2, x, y);
     Trace {
         placed: true,
-        x: x,
-        y: y,
+        x,
+        y,
         first: at,
         filled: at + 4,
     }
@@ -89,17 +89,13 @@ pub fn line(t: Trace, x: i32, y: i32, path: &mut [i32]) -> Trace
 pub fn end(t: Trace) -> Ended
     ensures { result ≡ ended t }
 {
-    let filled = t.filled;
     Ended {
         trace: Trace {
-            placed: t.placed,
-            x: t.x,
-            y: t.y,
-            first: filled,
-            filled: filled,
+            first: t.filled,
+            ..t
         },
         first: t.first,
-        length: open_length(t),
+        length: t.open_length(),
     }
 }
 
@@ -119,56 +115,45 @@ pub fn move_to(t: Trace, x: i32, y: i32) -> Trace
 {
     Trace {
         placed: true,
-        x: x,
-        y: y,
-        first: t.filled,
-        filled: t.filled,
+        x,
+        y,
+        ..end(t).trace
     }
 }
 
-fn is_open(t: Trace) -> bool
-    ensures { result ≡ is_open t }
-{
-    t.first < t.filled
-}
-
-// How many entries the open stroke has, 0 where none is open.
-fn open_length(t: Trace) -> usize
-    ensures { result ≡ t.filled - t.first }
-{
-    if t.first < t.filled {
-        return t.filled - t.first;
+impl Trace {
+    fn is_open(self) -> bool
+        ensures { result ≡ is_open self }
+    {
+        self.first < self.filled
     }
-    0
-}
 
-// How many entries a line adds.
-fn adds(t: Trace) -> usize
-    ensures { result ≡ adds t }
-{
-    if is_open(t) {
-        return 2;
+    // How many entries the open stroke has, 0 where none is open.
+    fn open_length(self) -> usize
+        ensures { result ≡ self.filled - self.first }
+    {
+        self.filled.saturating_sub(self.first)
     }
-    4
-}
 
-fn is_longer(t: Trace) -> bool
-    ensures { result ≡ is_longer t }
-{
-    if !is_open(t) {
-        return false;
+    // How many entries a line adds.
+    fn adds(self) -> usize
+        ensures { result ≡ adds self }
+    {
+        if self.is_open() { 2 } else { 4 }
     }
-    limits::ENTRIES_MAX - 2 < t.filled - t.first
-}
 
-fn is_fit(t: Trace, room: usize) -> bool
-    ensures { result ≡ is_fit t room }
-{
-    let n = adds(t);
-    if room < n {
-        return false;
+    fn is_longer(self) -> bool
+        ensures { result ≡ is_longer self }
+    {
+        limits::ENTRIES_MAX - 2 < self.open_length()
     }
-    t.filled <= room - n
+
+    fn is_fit(self, room: usize) -> bool
+        ensures { result ≡ is_fit self room }
+    {
+        let n = self.adds();
+        n <= room && self.filled <= room - n
+    }
 }
 
 fn is_inside(x: i32, y: i32) -> bool

@@ -1,2 +1,0 @@
--- Room: what the code rests on.
-mod Room
