@@ -4,6 +4,7 @@ use Prim.Native.Nat.{ℕ, ◌<◌}
 use mathlib.Core.Path.{◌≡◌, sym, ap, ◌∙◌, subst}
 use mathlib.Core.List.Memᴰ.{eq_of_singleton as only}
 use mathlib.Core.List.{List}
+use Rattle.std.specs.Prelude.{Result, Ok, Err}
 use Rattle.integers.specs.Count.{◌∈◌}
 use Rattle.pbm.specs.Reading.{header_in}
 use Rattle.lines.specs.Lines.{Line}
@@ -11,10 +12,8 @@ use Rattle.lines.specs.Rows.{row_lines}
 use Rattle.lines.specs.Theorems.{line_row, Ordered}
 use Rattle.lines.proofs.Theorems.{row_same, row_over_itself}
 use Rattle.compare.specs.declared.Sizes.{Sizes}
-use Rattle.compare.specs.declared.Sizes.TheVariants as sizes·
-use Rattle.compare.specs.declared.Ends.{Ends}
-use Rattle.compare.specs.declared.Ends.TheVariants as ends·
-use Rattle.compare.specs.Refusals.{sizes_of, ends_of}
+use Rattle.compare.specs.declared.Refusal.{Refusal}
+use Rattle.compare.specs.Refusals.{sizes_of, Ends, ends_of}
 use Rattle.compare.specs.Report.{told, film_lines, row_in, end_of, report_ended, report_sized}
 use Rattle.compare.specs.Theorems.{lines_of, InOrder, SamePixel, SpareBitsNothing, FilmOverItself}
 use Rattle.compare.proofs.Told.{film_row, films_told}
@@ -24,13 +23,13 @@ use Rattle.compare.proofs.EachLine.{in_report}
 
 -- ---- "top row first and left to right": a refusal has no lines, and the lines of rows are in order whatever the rows are
 ended_ordered : (f g : List ℕ) (columns rows start : ℕ) (e : Ends) → Ordered (lines_of (report_ended f g columns rows start e))
-ended_ordered f g columns rows start ends·.Whole = film_ordered columns (row_in f columns rows start) (row_in g columns rows start) rows
-ended_ordered f g columns rows start (ends·.Refused r) = tt
+ended_ordered f g columns rows start (Ok _) = film_ordered columns (row_in f columns rows start) (row_in g columns rows start) rows
+ended_ordered f g columns rows start (Err r) = tt
 
 -- whatever the sizes say, it is one or the other
-sized_ordered : (f g : List ℕ) (s : Sizes) → Ordered (lines_of (report_sized f g s))
-sized_ordered f g (sizes·.Equal columns rows start) = ended_ordered f g columns rows start (ends_of (end_of f columns rows start) (end_of g columns rows start))
-sized_ordered f g (sizes·.Refused r) = tt
+sized_ordered : (f g : List ℕ) (s : Result Sizes Refusal) → Ordered (lines_of (report_sized f g s))
+sized_ordered f g (Ok s) = ended_ordered f g s.columns s.rows s.start (ends_of (end_of f s.columns s.rows s.start) (end_of g s.columns s.rows s.start))
+sized_ordered f g (Err r) = tt
 
 -- and whatever the headers are
 pub in_order : InOrder

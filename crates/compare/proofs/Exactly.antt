@@ -5,6 +5,7 @@ use mathlib.Core.Logic.{◌↔◌}
 use mathlib.Core.Bool.{Bool, true, false, cond, ◌&&◌}
 use mathlib.Core.List.{List}
 use lib.Dec.{ltb, eqb}
+use Rattle.std.specs.Prelude.{Ok, Err}
 use Rattle.limits.specs.Exactly.{◌when◌else◌, done}
 use Rattle.limits.proofs.Exactly.{applies_here, applies_later, applies_none, tested}
 use Rattle.pbm.specs.declared.read.Header.{Header}
@@ -13,9 +14,7 @@ use Rattle.pbm.specs.Reading.{header_in}
 use Rattle.pbm.specs.Theorems.{Headed}
 use Rattle.pbm.proofs.Headed.{header_sound}
 use Rattle.compare.specs.declared.Refusal.TheVariants.{UnequalSizes}
-use Rattle.compare.specs.declared.Sizes.TheVariants as sizes·
-use Rattle.compare.specs.declared.Ends.{Ends}
-use Rattle.compare.specs.Refusals.{sizes_of, ends_of}
+use Rattle.compare.specs.Refusals.{sizes_of, Ends, ends_of}
 use Rattle.compare.specs.Report.{end_of, report_ended, report_sized}
 use Rattle.compare.specs.Theorems.{BadHeader, UnequalHeaders, ShortData, BytesAfter, refusal_of, RefusedExactly}
 use Rattle.compare.proofs.Heads.{unsound_bad, sizes_agree, sizes_differ, same_header, heads_unequal, heads_equal}
@@ -48,7 +47,7 @@ module _ (f g : List ℕ) where
   sizes_exactly : {c r n d s m : ℕ} → Headed f c r n → Headed g d s m → (k : ℕ) → (refusal_of (report_sized f g (sizes_of (Sound c r n) (Sound d s m))) ≡ k) ↔ SizeRefusals k
   sizes_exactly {c} {r} {n} {d} {s} {m} h h' = go (eqb c d && eqb r s) refl
     where
-      go : (t : Bool) → (eqb c d && eqb r s) ≡ t → (k : ℕ) → (refusal_of (report_sized f g (cond t (sizes·.Equal c r n) (sizes·.Refused UnequalSizes))) ≡ k) ↔ SizeRefusals k
+      go : (t : Bool) → (eqb c d && eqb r s) ≡ t → (k : ℕ) → (refusal_of (report_sized f g (cond t (Ok (record { columns = c; rows = r; start = n })) (Err UnequalSizes))) ≡ k) ↔ SizeRefusals k
       go true e = let same = sizes_agree c r d s e in applies_later (heads_equal h h' same) (ends_exactly h (same_header h h' same))
       go false e = applies_here _ (heads_unequal h h' (sizes_differ c r d s e)) refl
 

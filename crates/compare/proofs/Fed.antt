@@ -8,6 +8,7 @@ use mathlib.Core.List.{List, [], ◌∷◌, ◌++◌, append_assoc}
 use lib.ListN.{length, take, drop, length-take, length-drop, length-append}
 use lib.Seq.{take_at, drop-drop}
 use borrow.Author.Tests.{le-leb, lt-ltb}
+use Rattle.std.specs.Prelude.{unwrap_or}
 use Rattle.integers.proofs.Tests.{and_true}
 use Rattle.limits.specs.Sizes.{is_size, is_row}
 use Rattle.limits.proofs.Sizes.{size_iff}
@@ -96,7 +97,7 @@ module _ (columns : ℕ) (size : is_size columns ≡ true) where
       let row : t ≡ lines_text (row_lines (a k) (b k) columns k) =
       ap (λ (j : ℕ). lines_text (row_lines u v columns j)) last
       ∙ ap₂ (λ (x y : List ℕ). lines_text (row_lines x y columns k)) (sym (ea k (omega arith) ∙ first_left f k)) (sym (eb k (omega arith) ∙ first_left g k)) in
-      ap (λ (s : Stepped). take s.step.count s.buffer ++ fed k s.step.overlay (drop w f) (drop w g) s.buffer) (steps (at (suc k)) u v space (ready k f g space few room hf hg))
+      ap (λ (s : Stepped). take (unwrap_or s.count 0) s.buffer ++ fed k s.overlay (drop w f) (drop w g) s.buffer) (steps (at (suc k)) u v space (ready k f g space few room hf hg))
       ∙ ap₂ ◌++◌ (take_at t (drop (length t) space) (length t) refl) (ap (λ (n : ℕ). fed k (at n) (drop w f) (drop w g) (started t space)) last ∙ rest)
       ∙ ap (λ (l : List ℕ). l ++ lines_text (film_lines columns a b k)) row
       ∙ sym (lines_behind (row_lines (a k) (b k) columns k) (film_lines columns a b k))

@@ -1,21 +1,15 @@
 -- What two sound headers say.
 use Prim.Native.Nat.{ℕ}
 use mathlib.Core.Path.{◌≡◌, sym, ap, ap₂, ◌∙◌}
-use mathlib.Core.Bool.{Bool, true, false, cond, ◌&&◌}
+use mathlib.Core.Bool.{Bool, true, cond, ◌&&◌}
 use lib.Dec.{eqb}
+use Rattle.std.specs.Prelude.{Ok, Err}
 use Rattle.pbm.specs.declared.read.Header.{Header}
 use Rattle.pbm.specs.declared.read.Header.TheVariants.{Sound}
 use Rattle.compare.specs.declared.Refusal.TheVariants.{UnequalSizes}
-use Rattle.compare.specs.declared.Sizes.TheVariants.{Equal, Refused}
 use Rattle.compare.specs.Refusals.{sizes_of}
 
-module _ {first second : Header} (c r n d s m : ℕ) (e : first ≡ Sound c r n) (f : second ≡ Sound d s m) where
-  -- the one test of both sizes decides
-  by_sizes : (t : Bool) → (eqb c d && eqb r s) ≡ t → cond t (Equal c r n) (Refused UnequalSizes) ≡ sizes_of first second
-  by_sizes t p = ap (λ (b : Bool). cond b (Equal c r n) (Refused UnequalSizes)) (sym p) ∙ ap₂ sizes_of (sym e) (sym f)
-
-  pub other_sizes : (eqb c d && eqb r s) ≡ false → Refused UnequalSizes ≡ sizes_of first second
-  other_sizes p = by_sizes false p
-
-  pub same_sizes : (eqb c d && eqb r s) ≡ true → Equal c r n ≡ sizes_of first second
-  same_sizes p = by_sizes true p
+-- headers of one size
+pub same_sizes : {first second : Header} (c r n d s m : ℕ) → first ≡ Sound c r n → second ≡ Sound d s m → (eqb c d && eqb r s) ≡ true →
+    Ok (record { columns = c; rows = r; start = n }) ≡ sizes_of first second
+same_sizes c r n d s m e f p = ap (λ (b : Bool). cond b (Ok (record { columns = c; rows = r; start = n })) (Err UnequalSizes)) (sym p) ∙ ap₂ sizes_of (sym e) (sym f)

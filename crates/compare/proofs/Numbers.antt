@@ -5,6 +5,7 @@ use mathlib.Core.Path.{◌≡◌, sym, ap, subst}
 use mathlib.Core.Logic.{◌↔◌}
 use mathlib.Core.List.Memᴰ.{not-nil}
 use mathlib.Core.List.{List}
+use Rattle.std.specs.Prelude.{Result, Ok, Err}
 use Rattle.integers.specs.Count.{◌∈◌, Number}
 use Rattle.integers.proofs.Count.{number_iff}
 use Rattle.pbm.specs.Reading.{header_in}
@@ -15,10 +16,8 @@ use Rattle.lines.proofs.Theorems.{row_number}
 use Rattle.lines.proofs.Entries.{row_entries}
 use Rattle.difference.specs.Apart.{differing}
 use Rattle.compare.specs.declared.Sizes.{Sizes}
-use Rattle.compare.specs.declared.Sizes.TheVariants as sizes·
-use Rattle.compare.specs.declared.Ends.{Ends}
-use Rattle.compare.specs.declared.Ends.TheVariants as ends·
-use Rattle.compare.specs.Refusals.{sizes_of, ends_of}
+use Rattle.compare.specs.declared.Refusal.{Refusal}
+use Rattle.compare.specs.Refusals.{sizes_of, Ends, ends_of}
 use Rattle.compare.specs.Report.{film_lines, row_in, end_of, report_ended, report_sized}
 use Rattle.compare.specs.Theorems.{lines_of, EachNumber}
 use Rattle.compare.proofs.FilmLines.{in_film}
@@ -47,12 +46,12 @@ film_counted columns a b rows j n m =
 
 -- a refusal has no lines
 ended_counted : (f g : List ℕ) (columns rows start : ℕ) (e : Ends) → Counted (lines_of (report_ended f g columns rows start e))
-ended_counted f g columns rows start ends·.Whole = film_counted columns (row_in f columns rows start) (row_in g columns rows start) rows
-ended_counted f g columns rows start (ends·.Refused r) = λ j n m. absurd (not-nil m)
+ended_counted f g columns rows start (Ok _) = film_counted columns (row_in f columns rows start) (row_in g columns rows start) rows
+ended_counted f g columns rows start (Err r) = λ j n m. absurd (not-nil m)
 
-sized_counted : (f g : List ℕ) (s : Sizes) → Counted (lines_of (report_sized f g s))
-sized_counted f g (sizes·.Equal columns rows start) = ended_counted f g columns rows start (ends_of (end_of f columns rows start) (end_of g columns rows start))
-sized_counted f g (sizes·.Refused r) = λ j n m. absurd (not-nil m)
+sized_counted : (f g : List ℕ) (s : Result Sizes Refusal) → Counted (lines_of (report_sized f g s))
+sized_counted f g (Ok s) = ended_counted f g s.columns s.rows s.start (ends_of (end_of f s.columns s.rows s.start) (end_of g s.columns s.rows s.start))
+sized_counted f g (Err r) = λ j n m. absurd (not-nil m)
 
 pub each_number : EachNumber
 each_number f g = sized_counted f g (sizes_of (header_in f) (header_in g))

@@ -8,6 +8,7 @@ use lib.Dec.{ltb, eqb}
 use lib.ListN.{length, take, drop, length-take, length-drop}
 use lib.Seq.{take_at, drop-drop}
 use borrow.Author.Tests.{lt-ltb, ltb-true, ltb-false}
+use Rattle.std.specs.Prelude.{Ok, Err}
 use Rattle.integers.proofs.Tests.{and_both, same_test}
 use Rattle.limits.specs.Sizes.{is_size}
 use Rattle.limits.proofs.Sizes.{size_iff}
@@ -23,10 +24,7 @@ use Rattle.text.specs.Ascii.{ascii}
 use Rattle.lines.specs.Put.{text_room}
 use Rattle.compare.specs.declared.Refusal.{Refusal}
 use Rattle.compare.specs.declared.Refusal.TheVariants.{BadHeader1, BadHeader2, UnequalSizes, ShortData1, ShortData2, BytesAfter1, BytesAfter2}
-use Rattle.compare.specs.declared.Sizes.TheVariants as sizes·
-use Rattle.compare.specs.declared.Ends.{Ends}
-use Rattle.compare.specs.declared.Ends.TheVariants as ends·
-use Rattle.compare.specs.Refusals.{name, sizes_of, last_byte, ends_of}
+use Rattle.compare.specs.Refusals.{name, sizes_of, last_byte, Ends, ends_of}
 use Rattle.compare.specs.Report.{row_in, end_of, report_ended, report_sized, report_text}
 use Rattle.compare.specs.Run.{named, run_ended, run_sized}
 use Rattle.compare.specs.Theorems.{RunReports}
@@ -72,13 +70,13 @@ two_tell : (l m : List ℕ) → ends_of (length (take 2 l)) (length (take 2 m)) 
 two_tell l m = rw (none_tell l, none_tell m, more_tell l, more_tell m)
 
 -- where neither film is refused each file has one byte from its film's last on
-ends_whole : (t u : ℕ) → ends_of t u ≡ ends·.Whole → (t ≡ 1) × (u ≡ 1)
+ends_whole : (t u : ℕ) → ends_of t u ≡ Ok record {} → (t ≡ 1) × (u ≡ 1)
 ends_whole t u e = go (ltb t 1) (ltb u 1) (ltb 1 t) (ltb 1 u) refl refl refl refl e
   where
     told : (a b c d : Bool) → Ends
-    told a b c d = cond a (ends·.Refused ShortData1) (cond b (ends·.Refused ShortData2) (cond c (ends·.Refused BytesAfter1) (cond d (ends·.Refused BytesAfter2) ends·.Whole)))
+    told a b c d = cond a (Err ShortData1) (cond b (Err ShortData2) (cond c (Err BytesAfter1) (cond d (Err BytesAfter2) (Ok record {}))))
 
-    go : (a b c d : Bool) → ltb t 1 ≡ a → ltb u 1 ≡ b → ltb 1 t ≡ c → ltb 1 u ≡ d → told a b c d ≡ ends·.Whole → (t ≡ 1) × (u ≡ 1)
+    go : (a b c d : Bool) → ltb t 1 ≡ a → ltb u 1 ≡ b → ltb 1 t ≡ c → ltb 1 u ≡ d → told a b c d ≡ Ok record {} → (t ≡ 1) × (u ≡ 1)
     go true b c d p q r s e = absurd (let z : ◌≡◌ {A = ℕ} 0 1 = cc in omega arith)
     go false true c d p q r s e = absurd (let z : ◌≡◌ {A = ℕ} 0 1 = cc in omega arith)
     go false false true d p q r s e = absurd (let z : ◌≡◌ {A = ℕ} 0 1 = cc in omega arith)
@@ -105,14 +103,14 @@ module _ {f g : List ℕ} {columns rows start : ℕ} (h : Headed f columns rows 
   -- once the ends have been told, a refusal is named, or the rows are fed
   ended : (space : List ℕ) → length space ≡ text_room → (e : Ends) → ends_of (end_of f columns rows start) (end_of g columns rows start) ≡ e →
       run_ended f g space columns rows start e ≡ report_text (report_ended f g columns rows start e)
-  ended space room (ends·.Refused r) e = named_is r space room
-  ended space room ends·.Whole e =
+  ended space room (Err r) e = named_is r space room
+  ended space room (Ok _) e =
       let one = ends_whole (end_of f columns rows start) (end_of g columns rows start) e in
       feeds columns sizes.0 rows ((size_iff rows).0 sizes.1).few (drop start f) (drop start g) space room (whole h one.0) (whole k one.1)
       (row_in f columns rows start) (row_in g columns rows start) (λ j l. row_behind f j) (λ j l. row_behind g j)
 
   -- the ends are told from two bytes as from all
-  sized : (space : List ℕ) → length space ≡ text_room → run_sized f g space (sizes·.Equal columns rows start) ≡ report_text (report_sized f g (sizes·.Equal columns rows start))
+  sized : (space : List ℕ) → length space ≡ text_room → run_sized f g space (Ok (record { columns = columns; rows = rows; start = start })) ≡ report_text (report_sized f g (Ok (record { columns = columns; rows = rows; start = start })))
   sized space room =
       let e = ends_of (end_of f columns rows start) (end_of g columns rows start) in
       let last = last_byte columns rows start in
@@ -125,7 +123,7 @@ run_reports f g space room =
     ap₂ (λ (h k : Header). run_sized f g space (sizes_of h k)) (header_short f) (header_short g) ∙ go (header_in f) refl (header_in g) refl
   where
     agree : (c r n d s m : ℕ) → Headed f c r n → Headed g d s m → (t : Bool) → (eqb c d && eqb r s) ≡ t →
-        run_sized f g space (cond t (sizes·.Equal c r n) (sizes·.Refused UnequalSizes)) ≡ report_text (report_sized f g (cond t (sizes·.Equal c r n) (sizes·.Refused UnequalSizes)))
+        run_sized f g space (cond t (Ok (record { columns = c; rows = r; start = n })) (Err UnequalSizes)) ≡ report_text (report_sized f g (cond t (Ok (record { columns = c; rows = r; start = n })) (Err UnequalSizes)))
     agree c r n d s m h k true e = sized h (same_header h k (sizes_agree c r d s e)) space room
     agree c r n d s m h k false e = named_is UnequalSizes space room
 

@@ -6,12 +6,11 @@ use mathlib.Core.List.{List}
 use lib.Dec.{eqb}
 use lib.ListN.{length}
 use borrow.Author.Tests.{eq-eqb}
+use Rattle.std.specs.Prelude.{Ok}
 use Rattle.integers.proofs.Tests.{and_true}
 use Rattle.pbm.specs.Pbm.{header}
 use Rattle.pbm.specs.Reading.{header_in}
 use Rattle.pbm.proofs.Headed.{header_sound}
-use Rattle.compare.specs.declared.Sizes.TheVariants.{Equal}
-use Rattle.compare.specs.declared.Ends.TheVariants.{Whole}
 use Rattle.compare.specs.Refusals.{sizes_of, ends_of}
 use Rattle.compare.specs.Report.{told, film_lines, row_in, end_of, report_ended, report_sized, report_of}
 use Rattle.compare.specs.Theorems.{Film, Films, lines_of}
@@ -39,14 +38,14 @@ module _ {f g : List ℕ} {columns rows : ℕ} (films : Films f g columns rows) 
   same_start = films.first.head.long ∙ sym films.second.head.long
 
   -- each header is found, and they say the same size
-  same_size : Equal columns rows first ≡ sizes_of (header_in f) (header_in g)
+  same_size : Ok (record { columns = columns; rows = rows; start = first }) ≡ sizes_of (header_in f) (header_in g)
   same_size =
       let f-head = (header_sound f columns rows first).1 films.first.head in
       let g-head = (header_sound g columns rows second).1 films.second.head in
       same_sizes columns rows first columns rows second f-head g-head (and_true (eqb columns columns) (eqb rows rows) (eq-eqb columns columns refl) (eq-eqb rows rows refl))
 
   -- from its film's last byte on each file has one byte, so that no data are missing and no bytes follow
-  both_whole : ends_of (end_of f columns rows first) (end_of g columns rows first) ≡ Whole
+  both_whole : ends_of (end_of f columns rows first) (end_of g columns rows first) ≡ Ok record {}
   both_whole = ap₂ ends_of (end_one films.first) (ap (end_of g columns rows) same_start ∙ end_one films.second)
 
   -- so neither check refuses, and a report of films is lines, those of the rows

@@ -1,5 +1,5 @@
 -- The report of two whole files, given as their bytes.
-use Rattle.std.specs.Prelude.{ℕ, zero, suc, ◌+◌, ◌-◌, ◌*◌, List, [], ◌++◌, length, take, drop}
+use Rattle.std.specs.Prelude.{ℕ, zero, suc, ◌+◌, ◌-◌, ◌*◌, List, [], ◌++◌, length, take, drop, Result, Ok, Err}
 use Rattle.bits.specs.Bits.{packed_length}
 use Rattle.pbm.specs.Reading.{header_in}
 use Rattle.text.specs.Ascii.{ascii}
@@ -7,10 +7,7 @@ use Rattle.lines.specs.Lines.{Line, lines_text}
 use Rattle.lines.specs.Rows.{row_lines}
 use Rattle.compare.specs.declared.Refusal.{Refusal}
 use Rattle.compare.specs.declared.Sizes.{Sizes}
-use Rattle.compare.specs.declared.Sizes.TheVariants as sizes·
-use Rattle.compare.specs.declared.Ends.{Ends}
-use Rattle.compare.specs.declared.Ends.TheVariants as ends·
-use Rattle.compare.specs.Refusals.{name, sizes_of, last_byte, ends_of}
+use Rattle.compare.specs.Refusals.{name, sizes_of, last_byte, Ends, ends_of}
 
 -- "are refused by name before any row is reported": a report is a refusal, or lines
 pub data Report : Type 0 where
@@ -32,12 +29,12 @@ end_of f columns rows start = length (drop (last_byte columns rows start) f)
 
 -- what is left to report once the sizes, and then the ends, have been looked at
 abbrev pub report_ended : List ℕ → List ℕ → ℕ → ℕ → ℕ → Ends → Report
-report_ended f g columns rows start ends·.Whole = told (film_lines columns (row_in f columns rows start) (row_in g columns rows start) rows)
-report_ended f g columns rows start (ends·.Refused r) = refused r
+report_ended f g columns rows start (Ok _) = told (film_lines columns (row_in f columns rows start) (row_in g columns rows start) rows)
+report_ended f g columns rows start (Err r) = refused r
 
-abbrev pub report_sized : List ℕ → List ℕ → Sizes → Report
-report_sized f g (sizes·.Equal columns rows start) = report_ended f g columns rows start (ends_of (end_of f columns rows start) (end_of g columns rows start))
-report_sized f g (sizes·.Refused r) = refused r
+abbrev pub report_sized : List ℕ → List ℕ → Result Sizes Refusal → Report
+report_sized f g (Ok s) = report_ended f g s.columns s.rows s.start (ends_of (end_of f s.columns s.rows s.start) (end_of g s.columns s.rows s.start))
+report_sized f g (Err r) = refused r
 
 abbrev pub report_of : List ℕ → List ℕ → Report
 report_of f g = report_sized f g (sizes_of (header_in f) (header_in g))

@@ -6,6 +6,7 @@ use mathlib.Core.List.{List}
 use lib.Dec.{leb}
 use lib.ListN.{length}
 use borrow.Author.Tests.{leb-true, ltb-true}
+use Rattle.std.specs.Prelude.{Some, None}
 use Rattle.integers.proofs.Tests.{and_both}
 use Rattle.limits.specs.Sizes.{raster_max, is_size, is_row}
 use Rattle.limits.proofs.Sizes.{size_iff}
@@ -36,8 +37,14 @@ module _ (a b : List ℕ) (columns j : ℕ) where
         room = leb-true _ _ s.1;
       }
 
-  pub row_ready : (out : List ℕ) → is_ready columns j (length a) (length b) (length out) ≡ true → put_at out 0 (lines_text (row_lines a b columns j)) ≡ row_put a b columns j out
-  row_ready out e = ap (λ (t : Bool). cond t (put_at out 0 (lines_text (row_lines a b columns j))) (record { end = 0; buffer = out })) (sym e)
+  -- a row that is there is put, and of one that is not nothing is
+  pub row_ready : (out : List ℕ) → is_ready columns j (length a) (length b) (length out) ≡ true →
+      (let p = put_at out 0 (lines_text (row_lines a b columns j)) in record { count = Some p.end; buffer = p.buffer }) ≡ row_put a b columns j out
+  row_ready out e =
+      let p = put_at out 0 (lines_text (row_lines a b columns j)) in
+      ap (λ (t : Bool). cond t (record { count = Some p.end; buffer = p.buffer }) (record { count = None; buffer = out })) (sym e)
 
-  pub row_not : (out : List ℕ) → is_ready columns j (length a) (length b) (length out) ≡ false → record { end = 0; buffer = out } ≡ row_put a b columns j out
-  row_not out e = ap (λ (t : Bool). cond t (put_at out 0 (lines_text (row_lines a b columns j))) (record { end = 0; buffer = out })) (sym e)
+  pub row_not : (out : List ℕ) → is_ready columns j (length a) (length b) (length out) ≡ false → record { count = None; buffer = out } ≡ row_put a b columns j out
+  row_not out e =
+      let p = put_at out 0 (lines_text (row_lines a b columns j)) in
+      ap (λ (t : Bool). cond t (record { count = Some p.end; buffer = p.buffer }) (record { count = None; buffer = out })) (sym e)

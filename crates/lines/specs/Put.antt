@@ -1,8 +1,8 @@
 -- The text of a row in a lent buffer.
-use Rattle.std.specs.Prelude.{ℕ, Bool, cond, ◌&&◌, List, leb, length}
+use Rattle.std.specs.Prelude.{ℕ, Bool, cond, ◌&&◌, List, leb, length, Option, Some, None}
 use Rattle.limits.specs.Sizes.{is_size, is_row}
 use Rattle.bits.specs.Bits.{packed_length}
-use Rattle.text.specs.Put.{Put, put_at}
+use Rattle.text.specs.Put.{put_at}
 use Rattle.lines.specs.Lines.{lines_text}
 use Rattle.lines.specs.Rows.{row_lines}
 
@@ -18,7 +18,13 @@ is_whole length first second room = leb length first && (leb length second && le
 abbrev pub is_ready : ℕ → ℕ → ℕ → ℕ → ℕ → Bool
 is_ready columns j first second room = is_size columns && (is_row j && is_whole (packed_length columns) first second room)
 
--- where it is not so nothing is put, and no byte counted
-abbrev pub row_put : List ℕ → List ℕ → ℕ → ℕ → List ℕ → Put
+-- how many bytes the text of a row has, and the buffer that has it at its start
+pub record RowPut : Type 0 where
+  pub count : Option ℕ
+  pub buffer : List ℕ
+
+-- where there is no such row nothing is put
+abbrev pub row_put : List ℕ → List ℕ → ℕ → ℕ → List ℕ → RowPut
 row_put a b columns j out =
-    cond (is_ready columns j (length a) (length b) (length out)) (put_at out 0 (lines_text (row_lines a b columns j))) (record { end = 0; buffer = out })
+    let p = put_at out 0 (lines_text (row_lines a b columns j)) in
+    cond (is_ready columns j (length a) (length b) (length out)) (record { count = Some p.end; buffer = p.buffer }) (record { count = None; buffer = out })

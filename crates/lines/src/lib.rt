@@ -27,12 +27,12 @@ fn is_ready(columns: u64, row: u64, first: usize, second: usize, room: usize) ->
 
 // Puts the text of a row at the start of out: the line of its number, and a line for each pixel in
 // which the two packed rows differ. Answers how many bytes it has. Where there is no such row, a
-// packed row is not whole or out is shorter than TEXT_ROOM, nothing is put, and the answer is 0.
-pub fn put_row(out: &mut [u8], a: &[u8], b: &[u8], columns: u64, row: u64) -> usize
-    ensures { record { end = result; buffer = out.new } ≡ row_put a.now b.now columns row out.old }
+// packed row is not whole or out is shorter than TEXT_ROOM, nothing is put.
+pub fn put_row(out: &mut [u8], a: &[u8], b: &[u8], columns: u64, row: u64) -> Option<usize>
+    ensures { record { count = result; buffer = out.new } ≡ row_put a.now b.now columns row out.old }
 {
     if !is_ready(columns, row, a.len(), b.len(), out.len()) {
-        return 0;
+        return None;
     }
-    row::put_whole(out, a, b, columns as usize, row)
+    Some(row::put_whole(out, a, b, columns as usize, row))
 }

@@ -5,9 +5,11 @@
 // from them to standard output, as the definition `run` says.
 #![tactic(auto)]
 
-use compare::{Ends, Refusal, Sizes};
-use files::read_at;
-use output::write;
+ghost use Rattle.std.specs.Prelude.{◌≤◌, length, IfOk};
+
+use compare::{Refusal, Sizes};
+use files::{Film, read_at};
+use output::{Told, write};
 use std::env::Env;
 use std::fs::File;
 use std::str;
@@ -24,129 +26,92 @@ const HEADER_MAX: usize = pbm::HEADER_MAX;
 const NAME_MAX: usize = 4096;
 
 // A refusal is its own line.
-fn tell_refusal(rt: HostRuntime, r: Refusal, out: &mut [u8]) {
+fn tell_refusal(rt: HostRuntime, r: Refusal, out: &mut [u8]) -> Result<(), Told> {
     let count = compare::put_refusal(r, out);
-    write(rt.stdout(), rt.stderr(), out, count);
+    write(rt.stdout(), rt.stderr(), out, count)
 }
 
-// Two films of one size whose data start at `start`: their ends, and then their rows.
+// Two films of one size: their ends, and then their rows.
 fn lay_films(
     rt: HostRuntime,
-    first: &File,
-    first_name: &[u8],
-    second: &File,
-    second_name: &[u8],
-    columns: u64,
-    rows: u64,
-    start: usize,
+    first: Film,
+    second: Film,
+    sizes: Sizes,
     out: &mut [u8],
-) {
-    let last = compare::last_byte(columns, rows, start);
+) -> Result<(), Told> {
+    let last = compare::last_byte(sizes.columns, sizes.rows, sizes.start);
     let mut space = [0u8; 2];
-    let one = read_at(first, rt.stderr(), first_name, &mut space, last);
-    if one.is_failed {
-        return;
-    }
-    let two = read_at(second, rt.stderr(), second_name, &mut space, last);
-    if two.is_failed {
-        return;
-    }
-    match compare::ends_check(one.count, two.count) {
-        Ends::Refused(r) => tell_refusal(rt, r, out),
-        Ends::Whole => rows::tell_rows(
-            rt.stdout(),
-            rt.stderr(),
-            first,
-            first_name,
-            second,
-            second_name,
-            columns,
-            rows,
-            start as u64,
-            out,
-        ),
+    let n = read_at(first, rt.stderr(), &mut space, last)?;
+    let m = read_at(second, rt.stderr(), &mut space, last)?;
+    match compare::ends_check(n, m) {
+        Err(r) => tell_refusal(rt, r, out),
+        Ok(()) => rows::tell_rows(rt.stdout(), rt.stderr(), first, second, sizes, out),
     }
 }
 
-// Two open files: their headers, and then what follows.
-fn lay_files(rt: HostRuntime, first: &File, first_name: &[u8], second: &File, second_name: &[u8]) {
+// Two open films: their headers, and then what follows.
+fn lay(rt: HostRuntime, first: Film, second: Film) -> Result<(), Told> {
     let mut out = [0u8; TEXT_ROOM];
     let mut first_text = [0u8; HEADER_MAX];
-    let one = read_at(first, rt.stderr(), first_name, &mut first_text, 0);
-    if one.is_failed {
-        return;
-    }
+    let n = read_at(first, rt.stderr(), &mut first_text, 0)?;
     let mut second_text = [0u8; HEADER_MAX];
-    let two = read_at(second, rt.stderr(), second_name, &mut second_text, 0);
-    if two.is_failed {
-        return;
-    }
-    let n = one.count;
-    let m = two.count;
+    let m = read_at(second, rt.stderr(), &mut second_text, 0)?;
     let first_header = pbm::read_header(&first_text[..n]);
     let second_header = pbm::read_header(&second_text[..m]);
     match compare::headers_check(first_header, second_header) {
-        Sizes::Refused(r) => tell_refusal(rt, r, &mut out),
-        Sizes::Equal(columns, rows, start) => lay_films(
-            rt,
-            first,
-            first_name,
-            second,
-            second_name,
-            columns,
-            rows,
-            start,
-            &mut out,
-        ),
+        Err(r) => tell_refusal(rt, r, &mut out),
+        Ok(sizes) => lay_films(rt, first, second, sizes, &mut out),
     }
+}
+
+// The name that a word of the command line is, and how many bytes it has.
+fn read_name(rt: HostRuntime, word: usize, what: &[u8], name: &mut [u8]) -> Result<usize, Told>
+    ensures { IfOk result (λ n. n ≤ length name.new) }
+{
+    rt.arg(word, name).map_err(|e| {
+        tell::fail(rt.stderr(), what, inputs::word_error(e));
+        Told
+    })
 }
 
 // The file of a name. Where it cannot be opened, that is told.
-fn open(rt: HostRuntime, name: &[u8]) -> Option<File> {
+fn open(rt: HostRuntime, name: &[u8]) -> Result<File, Told> {
     let Ok(path) = str::from_utf8(name) else {
         tell::say(rt.stderr(), name);
         tell::say(rt.stderr(), b": the name is no UTF-8\n");
-        return None;
+        return Err(Told);
     };
-    match File::open(&rt, path) {
-        Ok(file) => Some(file),
-        Err(e) => {
-            tell::fail(rt.stderr(), name, e);
-            None
-        }
-    }
+    File::open(&rt, path).map_err(|e| {
+        tell::fail(rt.stderr(), name, e);
+        Told
+    })
 }
 
-// The second file, once the first is open.
-fn open_second(rt: HostRuntime, first: &File, first_name: &[u8]) {
+// The films of the two words.
+fn run(rt: HostRuntime) -> Result<(), Told> {
+    if inputs::word_count(&rt) != 3 {
+        tell::say(rt.stderr(), b"usage: overlay FIRST SECOND\n");
+        return Err(Told);
+    }
     let mut name = [0u8; NAME_MAX];
-    let n = match rt.arg(2, &mut name) {
-        Ok(n) => n,
-        Err(e) => {
-            return tell::fail(
-                rt.stderr(),
-                b"the second film's name",
-                inputs::word_error(e),
-            );
-        }
-    };
-    let Some(second) = open(rt, &name[..n]) else {
-        return;
-    };
-    lay_files(rt, first, first_name, &second, &name[..n]);
+    let n = read_name(rt, 1, b"the first film's name", &mut name)?;
+    let first = open(rt, &name[..n])?;
+    let mut second_name = [0u8; NAME_MAX];
+    let m = read_name(rt, 2, b"the second film's name", &mut second_name)?;
+    let second = open(rt, &second_name[..m])?;
+    lay(
+        rt,
+        Film {
+            file: &first,
+            name: &name[..n],
+        },
+        Film {
+            file: &second,
+            name: &second_name[..m],
+        },
+    )
 }
 
 fn main(rt: HostRuntime) {
-    if inputs::word_count(&rt) != 3 {
-        return tell::say(rt.stderr(), b"usage: overlay FIRST SECOND\n");
-    }
-    let mut name = [0u8; NAME_MAX];
-    let n = match rt.arg(1, &mut name) {
-        Ok(n) => n,
-        Err(e) => return tell::fail(rt.stderr(), b"the first film's name", inputs::word_error(e)),
-    };
-    let Some(first) = open(rt, &name[..n]) else {
-        return;
-    };
-    open_second(rt, &first, &name[..n]);
+    let _ = run(rt);
 }

@@ -2,76 +2,68 @@
 // longer than reading the films.
 use std::io::{Print, Stderr, Stdout};
 
-// How many bytes of a page are used; or that a write failed, which has been told.
-#[derive(Drop)]
-pub struct Page {
-    pub used: usize,
-    pub is_failed: bool,
-}
+// That there is no whole report, and that it has been told why.
+#[derive(Clone, Copy, Debug)]
+pub struct Told;
 
 // Tells what cannot be: by what `compare` promises no branch that calls this is taken.
-pub fn fault(told: Stderr) {
+pub fn fault(told: Stderr) -> Told {
     tell::say(told, b"overlay: a fault of the program, and no report\n");
+    Told
 }
 
-// Writes the first bytes of a text, and answers whether that was done. A write that fails is told.
-pub fn write(to: Stdout, told: Stderr, out: &[u8], count: usize) -> bool {
-    if out.len() < count {
-        fault(told);
-        return false;
-    }
-    match Print::write_all(&to, &out[..count]) {
-        Ok(()) => true,
-        Err(e) => {
-            tell::fail(told, b"standard output", e);
-            false
+// Writes the first bytes of a text. A write that fails is told.
+pub fn write(to: Stdout, told: Stderr, text: &[u8], count: usize) -> Result<(), Told> {
+    let Some(text) = text.get(..count) else {
+        return Err(fault(told));
+    };
+    Print::write_all(&to, text).map_err(|e| {
+        tell::fail(told, b"standard output", e);
+        Told
+    })
+}
+
+// How many bytes a page has.
+const PAGE: usize = 65536;
+
+// The bytes that are still to be written, `used` of them.
+#[derive(Drop)]
+pub struct Page {
+    bytes: [u8; PAGE],
+    used: usize,
+}
+
+impl Page {
+    pub fn new() -> Page {
+        Page {
+            bytes: [0; PAGE],
+            used: 0,
         }
     }
-}
 
-// Writes the page, and then the text at the start of it; or by itself where it is longer.
-fn turn(to: Stdout, told: Stderr, page: &mut [u8], used: usize, text: &[u8]) -> Page {
-    if !write(to, told, page, used) {
-        return Page {
-            used: 0,
-            is_failed: true,
-        };
+    // Writes the page, which is empty then.
+    pub fn write(&mut self, to: Stdout, told: Stderr) -> Result<(), Told> {
+        let used = self.used;
+        self.used = 0;
+        write(to, told, &self.bytes, used)
     }
-    let end = text::put(page, 0, text);
-    if 0 < end {
-        return Page {
-            used: end,
-            is_failed: false,
-        };
-    }
-    Page {
-        used: 0,
-        is_failed: !write(to, told, text, text.len()),
-    }
-}
 
-// Puts the first bytes of a text on the page, of which so many bytes are used.
-pub fn collect(
-    to: Stdout,
-    told: Stderr,
-    page: &mut [u8],
-    used: usize,
-    out: &[u8],
-    count: usize,
-) -> Page {
-    if out.len() < count {
-        fault(told);
-        return Page {
-            used: used,
-            is_failed: true,
+    // Puts the first bytes of a text on the page. Where they have no room it is written first, and
+    // what is longer than a page by itself.
+    pub fn put(&mut self, to: Stdout, told: Stderr, text: &[u8], count: usize) -> Result<(), Told> {
+        let Some(text) = text.get(..count) else {
+            return Err(fault(told));
         };
+        let end = text::put(&mut self.bytes, self.used, text);
+        if self.used < end {
+            self.used = end;
+            return Ok(());
+        }
+        self.write(to, told)?;
+        self.used = text::put(&mut self.bytes, 0, text);
+        if self.used == 0 {
+            write(to, told, text, count)?;
+        }
+        Ok(())
     }
-    let end = text::put(page, used, &out[..count]);
-    if used < end {
-        return Page {
-            used: end,
-            is_failed: false,
-        };
-    }
-    turn(to, told, page, used, &out[..count])
 }
