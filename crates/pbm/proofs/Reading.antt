@@ -1,5 +1,5 @@
 -- Reading a text from a place on: its digits, and whether it starts with certain bytes.
-use Prim.Native.Nat.{ℕ, zero, suc, ◌+◌, ◌-◌, ◌*◌, ◌^◌, ◌≤◌, ◌<◌, min}
+use Prim.Native.Nat.{ℕ, zero, suc, ◌+◌, ◌-◌, ◌*◌, ◌^◌, ◌≤◌, ◌<◌, min, max}
 use native.Mathlib.Nat.{pow-suc, pow-le-pow_right}
 use native.Mathlib.Omega.{arith}
 use mathlib.Core.Path.{◌≡◌, refl, ap, ap₂, ◌∙◌}
@@ -8,7 +8,8 @@ use mathlib.Core.List.{List, [], ◌∷◌, ◌++◌}
 use lib.Dec.{leb, eqb}
 use lib.ListN.{length, get_or, drop, drop_of_length-le}
 use lib.Seq.{drop-cons}
-use borrow.Author.Tests.{leb-true, leb-false, eq-eqb, ne_eqb, eqb-true}
+use borrow.Author.Tests.{leb-true, leb-false, eq-eqb, eqb-true}
+use Rattle.std.specs.List.{starts_with as std_starts_with}
 use Rattle.integers.proofs.Tests.{and_both}
 use Rattle.limits.proofs.Sizes.{within_iff}
 use Rattle.text.specs.Theorems.{reads_as}
@@ -77,7 +78,7 @@ told_last value i e = ap (told value i) e ∙ numbers (omega arith) (omega arith
 -- `value` has been read of the digits from `at` on, up to index i
 pub record SoFar (text : List ℕ) (at value i : ℕ) : Type 0 where
   pub from : at ≤ i
-  pub few : i ≤ at + 5
+  pub few : i ≤ max at (min (at + 5) (length text))
   pub small : value < 10 ^ (i - at)
   pub same : size_at at text ≡ told value i (leading (at + 5 - i) (drop i text))
 
@@ -105,28 +106,12 @@ pub one_digit_more : (k v x : ℕ) → v < 10 ^ k → is_digit x ≡ true → 10
 one_digit_more k v x l e = omega (arith, pow-suc 10 k, digit_high x e)
 
 -- ---- the bytes at the start of a text
-pub starts_short : (h s : List ℕ) → length s < length h → starts_with h s ≡ false
+-- the library's test is this one
+pub starts_is : (h s : List ℕ) → std_starts_with eqb s h ≡ starts_with h s
 unfolding starts_with
-starts_short [] s l = absurd (omega arith)
-starts_short (x ∷ h) [] l = refl
-starts_short (x ∷ h) (y ∷ s) l = rw (starts_short h s (omega arith), starts_with) (both_false (eqb y x))
-  where
-    both_false : (b : Bool) → (b && false) ≡ false
-    both_false true = refl
-    both_false false = refl
-
-module _ (h s : List ℕ) (i : ℕ) (l : i < length h) (m : i < length s) where
-  pub starts_same : get_or s i 0 ≡ get_or h i 0 → starts_with (drop i h) (drop i s) ≡ starts_with (drop (suc i) h) (drop (suc i) s)
-  unfolding starts_with
-  starts_same e = rw (drop-cons h i 0 l, drop-cons s i 0 m, starts_with, eq-eqb _ _ e)
-
-  pub starts_other : ¬ (get_or s i 0 ≡ get_or h i 0) → starts_with (drop i h) (drop i s) ≡ false
-  unfolding starts_with
-  starts_other e = rw (drop-cons h i 0 l, drop-cons s i 0 m, starts_with, ne_eqb _ _ e)
-
-pub starts_all : (h s : List ℕ) (i : ℕ) → length h ≤ i → starts_with (drop i h) s ≡ true
-unfolding starts_with
-starts_all h s i l = rw (drop_of_length-le h l, starts_with)
+starts_is [] s = refl
+starts_is (x ∷ h) [] = refl
+starts_is (x ∷ h) (y ∷ s) = ap₂ ◌&&◌ (grind arith) (starts_is h s)
 
 -- a text starts with what stands before its rest, and only so
 pub starts_here : (h r : List ℕ) → starts_with h (h ++ r) ≡ true

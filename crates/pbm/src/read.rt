@@ -1,7 +1,7 @@
 // Reading a header: document 01's form exactly. The digits that stand where the sizes stand name the
 // sizes, and the text must then start with the very header of these sizes.
 ghost use Rattle.std.specs.Prelude.{◌≡◌, ◌+◌, ◌-◌, ◌*◌, ◌≤◌, ◌<◌};
-ghost use Rattle.pbm.specs.Reading.{is_digit, size_at, starts_with, header_of, header_in};
+ghost use Rattle.pbm.specs.Reading.{size_at, header_of, header_in};
 
 use crate::{HEADER_MAX, put_header};
 
@@ -22,19 +22,13 @@ pub struct Number {
 // How many digits a size has at most.
 const DIGITS_MAX: usize = 5;
 
-fn is_digit(x: u8) -> bool
-    ensures { result ≡ is_digit x }
-{
-    b'0' <= x && x <= b'9'
-}
-
 // One digit more.
 fn next(n: u64, x: u8) -> u64
     requires few { n < 100000 }
     requires digit { 48 ≤ x }
     ensures { result ≡ 10 * n + (x - 48) }
 {
-    10 * n + (x - b'0') as u64
+    10 * n + u64::from(x - b'0')
 }
 
 // The number at a place: as many digits as stand there, and no more than a size has.
@@ -42,41 +36,19 @@ fn size_at(text: &[u8], at: usize) -> Number
     requires { at ≤ 9 }
     ensures { result ≡ size_at at text.now }
 {
-    let end = integers::min_usize(at + DIGITS_MAX, text.len());
+    let end = text.len().min(at + DIGITS_MAX);
     let mut value = 0;
-    let mut i = at;
-    while i < end {
+    for i in at..end {
         let x = text[i];
-        if !is_digit(x) {
-            return Number {
-                value: value,
-                end: i,
-            };
+        if !x.is_ascii_digit() {
+            return Number { value, end: i };
         }
         value = next(value, x);
-        i += 1;
     }
     Number {
-        value: value,
-        end: i,
+        value,
+        end: end.max(at),
     }
-}
-
-// Whether the text starts with these bytes.
-fn starts_with(text: &[u8], head: &[u8]) -> bool
-    ensures { result ≡ starts_with head.now text.now }
-{
-    if text.len() < head.len() {
-        return false;
-    }
-    let mut k = 0;
-    while k < head.len() {
-        if text[k] != head[k] {
-            return false;
-        }
-        k += 1;
-    }
-    true
 }
 
 // The header of so many columns and rows, where the text starts with it.
@@ -89,7 +61,7 @@ fn header_of(columns: u64, rows: u64, text: &[u8]) -> Header
         return Header::Unsound;
     }
     let n = answer.count as usize;
-    if !starts_with(text, &head[..n]) {
+    if !text.starts_with(&head[..n]) {
         return Header::Unsound;
     }
     Header::Sound(columns, rows, n)

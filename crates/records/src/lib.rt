@@ -28,10 +28,7 @@ const RUNS_MAX: usize = limits::ENTRIES_MAX / 2;
 fn entries(room: usize) -> usize
     ensures { result ≡ entries room }
 {
-    if room <= RUNS_MAX {
-        return 2 * room;
-    }
-    limits::ENTRIES_MAX
+    if room <= RUNS_MAX { 2 * room } else { limits::ENTRIES_MAX }
 }
 
 // The plain answer for a list of so many records. The list of numbers is the caller's, so that it is
@@ -60,13 +57,11 @@ fn write(plain: &[u16], count: usize, out: &mut [Run])
     requires records { count ≤ length out.old }
     ensures { out.new ≡ written count plain.now out.old }
 {
-    let mut i = 0;
-    while i < count {
+    for i in 0..count {
         out[i] = Run {
             left: plain[2 * i],
             right: plain[2 * i + 1],
         };
-        i += 1;
     }
 }
 

@@ -7,4 +7,4 @@ pub returns : goal.returns
 returns c =
     let i : c.loop-i.i ≡ c.args.count = omega arith in
     let a = c.args in
-    c.loop-i.invariant.1 ∙ ap (λ (n : ℕ). filled n a.plain.now a.out.now) i ∙ filled_written a.count a.plain.now a.out.now c.requires.numbers c.requires.records
+    c.loop-i.invariant ∙ ap (λ (n : ℕ). filled n a.plain.now a.out.now) i ∙ filled_written a.count a.plain.now a.out.now c.requires.numbers c.requires.records

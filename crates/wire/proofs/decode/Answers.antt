@@ -8,5 +8,5 @@ use Rattle.wire.proofs.decode.Goals as goal
 pub returns : goal.returns
 returns c =
     let held = entries_of c.args.bytes.now in
-    let fewer : c.min_usize-n.result ≡ min (length held) (length c.args.entries.now) = c.min_usize-n.ensures ∙ rw (entries_length c.args.bytes.now) in
-    c.fours.ensures ∙ over_is c.args.entries.now held c.min_usize-n.result fewer
+    let fewer : c.min-n.result ≡ min (length held) (length c.args.entries.now) = c.min-n.ensures ∙ rw (entries_length c.args.bytes.now) in
+    c.fours.ensures ∙ over_is c.args.entries.now held c.min-n.result fewer

@@ -7,6 +7,5 @@ pub returns : goal.returns
 returns c =
     let l = c.args.list.now in
     let k = min c.args.count (length c.args.bytes.now / 2) in
-    let fewest : c.min_usize-n-2.result ≡ min k (length l) =
-    c.min_usize-n-2.ensures ∙ ap (λ (n : ℕ). min n (length l)) c.min_usize-n.ensures in
-    c.pairs.ensures ∙ encoded_is l c.args.count c.args.bytes.now c.min_usize-n-2.result fewest
+    let fewest : c.min-n.result ≡ min k (length l) = c.min-n.ensures ∙ ap (λ (n : ℕ). min n (length l)) c.min.ensures in
+    c.pairs.ensures ∙ encoded_is l c.args.count c.args.bytes.now c.min-n.result fewest

@@ -4,10 +4,10 @@ use Rattle.pbm.specs.Reading.{leading}
 use Rattle.pbm.proofs.Reading.{digits_stop, digits_end, digits_more, told, told_last, told_more, one_digit_more}
 use Rattle.pbm.proofs.read.size_at.Goals as goal
 
-pub returns-then-not-is_digit : goal.returns-then-not-is_digit
-returns-then-not-is_digit c =
+pub returns-then-not-is_ascii_digit : goal.returns-then-not-is_ascii_digit
+returns-then-not-is_ascii_digit c =
     let l = c.loop-i in
-    let e = digits_stop (c.args.at + 5 - l.i) c.args.text.now l.i (omega arith) (sym c.is_digit.ensures ∙ c.if-not-is_digit.true) in
+    let e = digits_stop (c.args.at + 5 - l.i) c.args.text.now l.i (omega arith) (sym c.is_ascii_digit.ensures.value ∙ c.if-not-is_ascii_digit.true) in
     sym (l.invariant.same ∙ told_last l.value l.i e)
 
 pub loop-i-preserved : goal.loop-i-preserved
@@ -19,7 +19,7 @@ loop-i-preserved c =
     let h = c.loop-i.invariant in
     let n = c.next-value.result in
     let x = get_or text i 0 in
-    let first = sym c.is_digit.ensures ∙ c.if-not-is_digit.false in
+    let first = sym c.is_ascii_digit.ensures.value ∙ c.if-not-is_ascii_digit.false in
     let k : i + 1 - at ≡ suc (i - at) = omega (arith, h.from) in
     let few = one_digit_more (i - at) v x h.small first in
     record {
@@ -37,4 +37,5 @@ pub returns : goal.returns
 returns c =
     let l = c.loop-i in
     let e = digits_end c.args.at l.i c.args.text.now (omega arith) in
-    sym (l.invariant.same ∙ told_last l.value l.i e)
+    let last : c.max.result ≡ l.i = omega (arith, l.invariant.from) in
+    rw last (sym (l.invariant.same ∙ told_last l.value l.i e))

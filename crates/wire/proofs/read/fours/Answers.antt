@@ -16,9 +16,7 @@ loop-i-preserved c =
     let room : i < length d = omega arith in
     let from : i < length (entries_of b) = omega (arith, entries_length b) in
     let next : to_z w32 (of_z w32 c.entry.result) ≡ get_or (entries_of b) i (pos 0) =
-    (par {w = w32} (record { sfits = c.entry.type_inv })).reads ∙ c.entry.ensures ∙ sym (entry_at b i inside) in (
-      omega arith,
-      ap₂ (λ (l : List ℤ) (x : ℤ). set l i x) c.loop-i.invariant.1 next
-          ∙ front_suc d (entries_of b) i (pos 0) room from
-          ∙ ap (paste d 0 (entries_of b)) (sym (add-one i)),
-    )
+    (par {w = w32} (record { sfits = c.entry.type_inv })).reads ∙ c.entry.ensures ∙ sym (entry_at b i inside) in
+    ap₂ (λ (l : List ℤ) (x : ℤ). set l i x) c.loop-i.invariant next
+    ∙ front_suc d (entries_of b) i (pos 0) room from
+    ∙ ap (paste d 0 (entries_of b)) (sym (add-one i))
