@@ -14,7 +14,7 @@ ghost use Rattle.compare.specs.Step.{stepped};
 
 use pbm::Header;
 
-// What is refused of two files, in this order.
+// What is refused of two files, in this order: a variant for each line that is told.
 #[derive(Clone, Copy, PartialEq, Eq, Debug)]
 pub enum Refusal {
     BadHeader1,

@@ -63,6 +63,8 @@ struct Rows<'a> {
     ghost short: { length digits.now ≤ 5 },
 }
 
+// Three loops, and not one over a closure: its contract would have to say the text of each index, in
+// more lines than the three have.
 impl<'a> Rows<'a> {
     // The line of column i, where the two rows differ there.
     fn put_column(&self, out: &mut [u8], at: usize, i: usize) -> usize
