@@ -58,20 +58,12 @@ pub fn raise(e: Edge) -> Edge
     let rest = e.rest + e.more;
     let column = e.column + e.step;
     if rest < e.by {
-        return Edge {
-            column: column,
-            rest: rest,
-            step: e.step,
-            more: e.more,
-            by: e.by,
-        };
+        return Edge { column, rest, ..e };
     }
     Edge {
         column: column + 1,
         rest: rest - e.by,
-        step: e.step,
-        more: e.more,
-        by: e.by,
+        ..e
     }
 }
 
@@ -94,14 +86,11 @@ fn all_near(px: i64, py: i64, qx: i64, qy: i64, h: i64) -> bool
 fn slope(dx: i64, dy: i64) -> i64
     ensures { result ≡ floor_div dx dy }
 {
-    if dx < 0 {
-        if -1 - dx < dy {
-            return -1;
-        }
-    } else {
-        if dx < dy {
-            return 0;
-        }
+    if dx < 0 && -1 - dx < dy {
+        return -1;
+    }
+    if 0 <= dx && dx < dy {
+        return 0;
     }
     integers::floor_div(dx, dy)
 }
@@ -120,10 +109,10 @@ pub fn place(px: i64, py: i64, qx: i64, qy: i64, h: i64) -> Edge
     let column = integers::floor_div(num, by);
     let step = slope(dx, dy);
     Edge {
-        column: column,
+        column,
         rest: num - by * column,
-        step: step,
+        step,
         more: 16 * (dx - dy * step),
-        by: by,
+        by,
     }
 }

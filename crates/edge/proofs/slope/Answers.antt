@@ -5,7 +5,7 @@ use Rattle.integers.specs.Orders.{◌≼◌, ◌≺◌}
 use Rattle.integers.specs.Floor.{floor_div}
 use Rattle.integers.proofs.Ring.{ring, reify}
 use Rattle.integers.proofs.Floor.{floor_div_unique}
-use Rattle.integers.proofs.Machine.{par, num, any, sub_at, flip_fits, lt_yes, lt_no}
+use Rattle.integers.proofs.Machine.{par, num, any, sub_at, flip_fits, lt_yes, le_yes}
 use Rattle.edge.proofs.slope.Goals as goal
 
 -- ---- the quotient of a steep edge, to the right and to the left
@@ -31,4 +31,4 @@ returns-then-dx-dy c =
 pub returns-then-dx-dy-2 : goal.returns-then-dx-dy-2
 returns-then-dx-dy-2 c =
     let dx = par {w = w64} c.ranges.dx in
-    steep_right c.args.dx c.args.dy (lt_no dx (num {w = w64} (pos 0) tt) c.if-dx-lt0.false) (lt_yes dx (par {w = w64} c.ranges.dy) c.if-dx-dy-2.true)
+    steep_right c.args.dx c.args.dy (le_yes (num {w = w64} (pos 0) tt) dx c.if-dx-ge0.true) (lt_yes dx (par {w = w64} c.ranges.dy) c.if-dx-dy-2.true)
