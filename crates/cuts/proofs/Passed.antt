@@ -6,8 +6,8 @@ use native.Mathlib.Omega.{arith}
 use lib.ListN.{length, get_or, take, drop, drop_of_length-le}
 use lib.Seq.{take_all}
 use Rattle.bits.specs.Bits.{blackened}
+use Rattle.std.specs.Prelude.{Option, Some, None}
 use Rattle.cuts.specs.declared.cut.Cut.{Cut}
-use Rattle.cuts.specs.declared.cut.Cut.TheVariants as cut·
 use Rattle.cuts.specs.declared.Touch.{Touch}
 use Rattle.cuts.specs.declared.Touch.TheVariants as touch·
 use Rattle.cuts.specs.declared.Bounds.{Bounds}
@@ -17,13 +17,13 @@ use Rattle.cuts.proofs.Laid.{laid_next}
 use Rattle.cuts.proofs.Touches.{several_stay, touch_step, touch_end}
 
 -- ---- the search: the cuts after the first k make of t what all cuts make of a row untouched
-pub record Searched (cs : List Cut) (n : ℕ) (t : Touch) (k : ℕ) : Type 0 where
+pub record Searched (cs : List (Option Cut)) (n : ℕ) (t : Touch) (k : ℕ) : Type 0 where
   pub within : k ≤ n
   pub all : n ≡ length cs
   pub same : touch_of (drop k cs) t ≡ touch_of cs touch·.Untouched
 
 -- one cut more
-pub searched_step : {cs : List Cut} {n : ℕ} {t t' : Touch} {k : ℕ} → Searched cs n t k → suc k ≤ n → t' ≡ touched t (get_or cs k cut·.Nothing) → Searched cs n t' (suc k)
+pub searched_step : {cs : List (Option Cut)} {n : ℕ} {t t' : Touch} {k : ℕ} → Searched cs n t k → suc k ≤ n → t' ≡ touched t (get_or cs k None) → Searched cs n t' (suc k)
 searched_step {cs} {t = t} {k = k} d h e = record {
   within = h;
   all = d.all;
@@ -31,15 +31,15 @@ searched_step {cs} {t = t} {k = k} d h e = record {
 }
 
 -- after the last none is left
-pub searched_end : {cs : List Cut} {n : ℕ} {t : Touch} {k : ℕ} → Searched cs n t k → n ≤ k → t ≡ touch_of cs touch·.Untouched
+pub searched_end : {cs : List (Option Cut)} {n : ℕ} {t : Touch} {k : ℕ} → Searched cs n t k → n ≤ k → t ≡ touch_of cs touch·.Untouched
 searched_end {cs} {t = t} {k = k} d h = sym (touch_end t (drop_of_length-le cs {i = k} (omega arith))) ∙ d.same
 
 -- several stay several, whatever comes after them
-pub several_end : {cs : List Cut} {n k : ℕ} {t : Touch} → Searched cs n t k → t ≡ touch·.Several → touch·.Several ≡ touch_of cs touch·.Untouched
+pub several_end : {cs : List (Option Cut)} {n k : ℕ} {t : Touch} → Searched cs n t k → t ≡ touch·.Several → touch·.Several ≡ touch_of cs touch·.Untouched
 several_end {cs} {k = k} d e = sym (several_stay (drop k cs)) ∙ ap (touch_of (drop k cs)) (sym e) ∙ d.same
 
 -- ---- the laying: the first k cuts are laid over the bytes, and the cuts after them make of the bounds what all cuts make of none
-pub record Overlaid (cs : List Cut) (n : ℕ) (bytes₀ bytes : List ℕ) (b : Bounds) (k : ℕ) : Type 0 where
+pub record Overlaid (cs : List (Option Cut)) (n : ℕ) (bytes₀ bytes : List ℕ) (b : Bounds) (k : ℕ) : Type 0 where
   pub within : k ≤ n
   pub all : n ≡ length cs
   pub as_long : length bytes ≡ length bytes₀
@@ -47,8 +47,8 @@ pub record Overlaid (cs : List Cut) (n : ℕ) (bytes₀ bytes : List ℕ) (b : B
   pub bounded : bounds_of (drop k cs) b ≡ bounds_of cs unbounded
 
 -- one cut more
-pub overlaid_step : {cs : List Cut} {n : ℕ} {bytes₀ bytes bytes' : List ℕ} {b b' : Bounds} {k : ℕ} → Overlaid cs n bytes₀ bytes b k → suc k ≤ n →
-    length bytes' ≡ length bytes → bytes' ≡ blackened (λ x. in_cut x (get_or cs k cut·.Nothing)) bytes → b' ≡ wider b (get_or cs k cut·.Nothing) →
+pub overlaid_step : {cs : List (Option Cut)} {n : ℕ} {bytes₀ bytes bytes' : List ℕ} {b b' : Bounds} {k : ℕ} → Overlaid cs n bytes₀ bytes b k → suc k ≤ n →
+    length bytes' ≡ length bytes → bytes' ≡ blackened (λ x. in_cut x (get_or cs k None)) bytes → b' ≡ wider b (get_or cs k None) →
     Overlaid cs n bytes₀ bytes' b' (suc k)
 overlaid_step {cs} {bytes₀ = bytes₀} {b = b} {k = k} d h l e f = record {
   within = h;
@@ -59,9 +59,9 @@ overlaid_step {cs} {bytes₀ = bytes₀} {b = b} {k = k} d h l e f = record {
 }
 
 -- after the last none is left
-pub overlaid_end : {cs : List Cut} {n : ℕ} {bytes₀ bytes : List ℕ} {b : Bounds} {k : ℕ} → Overlaid cs n bytes₀ bytes b k → n ≤ k →
+pub overlaid_end : {cs : List (Option Cut)} {n : ℕ} {bytes₀ bytes : List ℕ} {b : Bounds} {k : ℕ} → Overlaid cs n bytes₀ bytes b k → n ≤ k →
     (bytes ≡ blackened (black_cut cs) bytes₀) × (b ≡ bounds_of cs unbounded)
 overlaid_end {cs} {bytes₀ = bytes₀} {b = b} {k = k} d h = (
-  d.laid ∙ ap (λ (l : List Cut). blackened (black_cut l) bytes₀) (take_all k cs (omega arith)),
+  d.laid ∙ ap (λ (l : List (Option Cut)). blackened (black_cut l) bytes₀) (take_all k cs (omega arith)),
   sym (bounds_end b (drop_of_length-le cs {i = k} (omega arith))) ∙ d.bounded,
 )

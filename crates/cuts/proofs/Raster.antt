@@ -25,11 +25,10 @@ use Rattle.stroke.specs.Sweep.{Seg, segments}
 use Rattle.stroke.specs.Extent.{Span, none, columns as from-to, extent}
 use Rattle.extent.specs.Answer.{allowed, answered, extent_of}
 use Rattle.extent.specs.declared.Extent.{Extent}
-use Rattle.extent.specs.declared.Extent.TheVariants as extent·
 use Rattle.stroke.specs.Runs.{in_span, any, black_at}
+use Rattle.std.specs.Prelude.{Option, Some, None}
 use Rattle.cuts.specs.declared.cut.Cut.{Cut}
-use Rattle.cuts.specs.declared.cut.Cut.TheVariants as cut·
-use Rattle.cuts.specs.Cuts.{cut_to, extent_in, cuts, Below, in_cut, black_cut}
+use Rattle.cuts.specs.Cuts.{cut_from, cut_to, extent_in, cuts, Below, in_cut, black_cut}
 
 -- ---- the raster's last column
 last_column : (n : ℕ) → pos (suc n) -ℤ pos 1 ≡ pos n
@@ -37,12 +36,12 @@ last_column n = -ℤ_one (pos (suc n))
 
 -- ---- one span
 -- where a is at least 0, the test of the columns from a to b is that of their cut
-cond_cut : (a b : ℤ) (x : ℕ) → pos 0 ≼ a → (le_z a (pos x) && le_z (pos x) b) ≡ in_cut x (cond (le_z a b) (cut·.Columns (nat_abs a) (nat_abs b)) cut·.Nothing)
+cond_cut : (a b : ℤ) (x : ℕ) → pos 0 ≼ a → (le_z a (pos x) && le_z (pos x) b) ≡ in_cut x (cond (le_z a b) (cut_from (nat_abs a) (nat_abs b)) None)
 cond_cut (negsuc m) b x h = absurd h.le
 cond_cut (pos m) (negsuc n) x h = and_false (leb m x) false refl
 cond_cut (pos m) (pos n) x h = go (leb m n) refl
   where
-    go : (t : Bool) → leb m n ≡ t → (leb m x && leb x n) ≡ in_cut x (cond t (cut·.Columns m n) cut·.Nothing)
+    go : (t : Bool) → leb m n ≡ t → (leb m x && leb x n) ≡ in_cut x (cond t (cut_from m n) None)
     go true e = refl
     go false e = same_test _ _ (λ q. let b = and_both (leb m x) (leb x n) q in absurd (clash (le-leb m n (omega (arith, leb-true m x b.0, leb-true x n b.1))) e)) (λ q. absurd (clash q refl))
 
@@ -70,9 +69,9 @@ in_cut_lem (from-to first last) x columns h =
 
 -- ---- within the raster
 -- `Below columns`, by cases
-abbrev InRaster : ℕ → Cut → Type 0
-InRaster columns cut·.Nothing = Unit
-InRaster columns (cut·.Columns l r) = (l ≤ r) × (r < columns)
+abbrev InRaster : ℕ → Option Cut → Type 0
+InRaster columns None = Unit
+InRaster columns (Some c) = (c.left ≤ c.right) × (c.right < columns)
 
 ordered : (columns : ℕ) (a b : ℤ) → pos 0 ≼ a → a ≼ b → b ≼ pos columns -ℤ pos 1 → (nat_abs a ≤ nat_abs b) × (nat_abs b < columns)
 ordered columns (negsuc m) b h k l = absurd h.le
@@ -80,32 +79,32 @@ ordered columns (pos m) (negsuc n) h k l = absurd k.le
 ordered zero (pos m) (pos n) h k l = absurd l.le
 ordered (suc w) (pos m) (pos n) h k l = (leb-true m n ((le_iff (pos m) (pos n)).1 k), omega (arith, leb-true n w ((le_iff (pos n) (pos w)).1 (rw last_column at l))))
 
-cut_in : (columns : ℕ) (s : Extent) → InRaster columns (cut_to columns s)
-cut_in columns extent·.Nothing = tt
-cut_in columns (extent·.Columns first last) = go (le_z a b) refl
+cut_in : (columns : ℕ) (s : Option Extent) → InRaster columns (cut_to columns s)
+cut_in columns None = tt
+cut_in columns (Some s) = go (le_z a b) refl
   where
     a : ℤ
-    a = max_z first (pos 0)
+    a = max_z s.first (pos 0)
 
     b : ℤ
-    b = min_z last (pos columns -ℤ pos 1)
+    b = min_z s.last (pos columns -ℤ pos 1)
 
-    go : (t : Bool) → le_z a b ≡ t → InRaster columns (cond t (cut·.Columns (nat_abs a) (nat_abs b)) cut·.Nothing)
-    go true e = ordered columns a b (max_r first (pos 0)) (le_true e) (min_r last (pos columns -ℤ pos 1))
+    go : (t : Bool) → le_z a b ≡ t → InRaster columns (cond t (cut_from (nat_abs a) (nat_abs b)) None)
+    go true e = ordered columns a b (max_r s.first (pos 0)) (le_true e) (min_r s.last (pos columns -ℤ pos 1))
     go false e = tt
 
-pub cut_below : {columns : ℕ} (s : Extent) {c : Cut} → c ≡ cut_to columns s → Below columns c
-cut_below {columns} s e l r f = subst (InRaster columns) (sym e ∙ f) (cut_in columns s)
+pub cut_below : {columns : ℕ} (s : Option Extent) {c : Option Cut} → c ≡ cut_to columns s → Below columns c
+cut_below {columns} s e d f = subst (InRaster columns) (sym e ∙ f) (cut_in columns s)
 
-pub below_more : {n m : ℕ} {c : Cut} → n ≤ m → Below n c → Below m c
-below_more h b l r e = let p = b l r e in (p.0, omega arith)
+pub below_more : {n m : ℕ} {c : Option Cut} → n ≤ m → Below n c → Below m c
+below_more h b d e = let p = b d e in (p.0, omega arith)
 
 -- ---- all cuts of a path
-all_below : (columns : ℕ) (f : Seg → Extent) (l : List Seg) (c : Cut) → c ∈ map (λ g. cut_to columns (f g)) l → Below columns c
+all_below : (columns : ℕ) (f : Seg → Option Extent) (l : List Seg) (c : Option Cut) → c ∈ map (λ g. cut_to columns (f g)) l → Below columns c
 all_below columns f [] c m = absurd (not-nil m)
 all_below columns f (g ∷ l) c m = elim (cases m) [ inl e ↦ cut_below (f g) e | inr i ↦ all_below columns f l c i ]
 
-pub cuts_below : (cs path : List Pt) (columns j : ℕ) (c : Cut) → c ∈ cuts cs path columns j → Below columns c
+pub cuts_below : (cs path : List Pt) (columns j : ℕ) (c : Option Cut) → c ∈ cuts cs path columns j → Below columns c
 cuts_below cs path columns j = all_below columns (extent_in cs j) (segments path)
 
 pub cuts_long : (cs path : List Pt) (columns j : ℕ) → length (cuts cs path columns j) ≡ length (segments path)
@@ -118,8 +117,8 @@ map_at f (a ∷ l) zero d e h = refl
 map_at f (a ∷ l) (suc k) d e h = map_at f l k d e (omega arith)
 
 pub cut_place : (cs path : List Pt) (columns j k : ℕ) (g : Seg) → k < length (segments path) →
-    get_or (cuts cs path columns j) k cut·.Nothing ≡ cut_to columns (extent_in cs j (get_or (segments path) k g))
-cut_place cs path columns j k g h = map_at (λ g. cut_to columns (extent_in cs j g)) (segments path) k g cut·.Nothing h
+    get_or (cuts cs path columns j) k None ≡ cut_to columns (extent_in cs j (get_or (segments path) k g))
+cut_place cs path columns j k g h = map_at (λ g. cut_to columns (extent_in cs j g)) (segments path) k g None h
 
 -- ---- segments within document 01's limits
 abbrev pub Near : List Seg → ℕ → Type 0
@@ -134,7 +133,7 @@ any_cut : (cs : List Pt) (x columns j : ℕ) → x < columns → (l : List Seg) 
     any (λ g. in_span (extent cs g (pos j)) (pos x)) l ≡ any (in_cut x) (map (λ g. cut_to columns (extent_in cs j g)) l)
 any_cut cs x columns j h [] n = refl
 any_cut cs x columns j h (g ∷ l) n =
-    ap₂ ◌||◌ (in_cut_lem (extent cs g (pos j)) x columns h ∙ ap (λ (e : Extent). in_cut x (cut_to columns e)) (near_extent cs g j (n g (head refl))))
+    ap₂ ◌||◌ (in_cut_lem (extent cs g (pos j)) x columns h ∙ ap (λ (e : Option Extent). in_cut x (cut_to columns e)) (near_extent cs g j (n g (head refl))))
     (any_cut cs x columns j h l (λ k m. n k (tail m)))
 
 -- a column of the raster is black by the extents when it is black by their cuts

@@ -19,6 +19,7 @@ use Rattle.bits.proofs.Blackened.{blackened_packed, blackened_clear}
 use Rattle.stroke.specs.Sweep.{segments}
 use Rattle.stroke.specs.Runs.{black_at}
 use Rattle.cuts.specs.declared.Bounds.{Bounds}
+use Rattle.std.specs.Prelude.{Option}
 use Rattle.cuts.specs.declared.cut.Cut.{Cut}
 use Rattle.cuts.specs.declared.Touch.TheVariants as touch·
 use Rattle.cuts.specs.Cuts.{cuts, touch_of, touch_in, bounds_of, unbounded, Laid, laid, Bounded, black_cut}
@@ -48,7 +49,7 @@ module _ (cs path : List Pt) (columns j : ℕ) where
 
 -- ---- a raster of a size that is allowed
 module _ (cs path : List Pt) (columns j : ℕ) (s : Size columns) where
-  row_cuts : List Cut
+  row_cuts : List (Option Cut)
   row_cuts = cuts cs path columns j
 
   touches : touch_in cs path columns j ≡ touch_of row_cuts touch·.Untouched
@@ -69,12 +70,12 @@ module _ (cs path : List Pt) (columns j : ℕ) (s : Size columns) where
     pub untouched : touch_in cs path columns j ≡ touch·.Untouched → (x : ℕ) → x < columns → black_at cs path (pos j) (pos x) ≡ false
     untouched e x h = by_cuts x h ∙ touch_black row_cuts (sym touches ∙ e) tt x
 
-    pub touched_once : (a b : ℕ) → touch_in cs path columns j ≡ touch·.One a b → (x : ℕ) → x < columns → black_at cs path (pos j) (pos x) ≡ (leb a x && leb x b)
-    touched_once a b e x h = by_cuts x h ∙ touch_black row_cuts (sym touches ∙ e) tt x
+    pub touched_once : (a : Cut) → touch_in cs path columns j ≡ touch·.One a → (x : ℕ) → x < columns → black_at cs path (pos j) (pos x) ≡ (leb a.left x && leb x a.right)
+    touched_once a e x h = by_cuts x h ∙ touch_black row_cuts (sym touches ∙ e) tt x
 
-    pub touched_twice : (a b c d : ℕ) → touch_in cs path columns j ≡ touch·.Two a b c d → (x : ℕ) → x < columns →
-        black_at cs path (pos j) (pos x) ≡ ((leb a x && leb x b) || (leb c x && leb x d))
-    touched_twice a b c d e x h = by_cuts x h ∙ touch_black row_cuts (sym touches ∙ e) tt x
+    pub touched_twice : (a b : Cut) → touch_in cs path columns j ≡ touch·.Two a b → (x : ℕ) → x < columns →
+        black_at cs path (pos j) (pos x) ≡ ((leb a.left x && leb x a.right) || (leb b.left x && leb x b.right))
+    touched_twice a b e x h = by_cuts x h ∙ touch_black row_cuts (sym touches ∙ e) tt x
 
     -- laid over bytes, the row is that of the path
     pub laid_row : (b : List ℕ) {c : List ℕ} {u : Bounds} → packed_length columns ≤ length b → record { bytes = c; bounds = u } ≡ laid cs path columns j b →
@@ -109,8 +110,8 @@ module _ (cs path : List Pt) (columns j : ℕ) (s : Size columns) where
   unfolding row_cuts
   within = subst (WithinTouch columns) (sym touches) (touch_within columns row_cuts (cuts_below cs path columns j) touch·.Untouched tt)
 
-  pub once_in : (a b : ℕ) → touch_in cs path columns j ≡ touch·.One a b → (a ≤ b) × (b < columns)
-  once_in a b e = subst (WithinTouch columns) e within
+  pub once_in : (a : Cut) → touch_in cs path columns j ≡ touch·.One a → (a.left ≤ a.right) × (a.right < columns)
+  once_in a e = subst (WithinTouch columns) e within
 
-  pub twice_in : (a b c d : ℕ) → touch_in cs path columns j ≡ touch·.Two a b c d → ((a ≤ b) × (b < columns)) × ((c ≤ d) × (d < columns))
-  twice_in a b c d e = subst (WithinTouch columns) e within
+  pub twice_in : (a b : Cut) → touch_in cs path columns j ≡ touch·.Two a b → ((a.left ≤ a.right) × (a.right < columns)) × ((b.left ≤ b.right) × (b.right < columns))
+  twice_in a b e = subst (WithinTouch columns) e within

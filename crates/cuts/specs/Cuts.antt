@@ -1,6 +1,6 @@
 -- How the code goes about a row: each segment's extent is cut to the raster, and laid over the bytes of a packed row. `black_cut_lem` and `laid_row`
 -- (proofs/Raster, Together) say that it comes to the same as `black_at`.
-use Rattle.std.specs.Prelude.{ℕ, suc, ◌≤◌, ◌<◌, min, max, ◌≡◌, Bool, true, false, cond, ◌&&◌, List, [], ◌∷◌, map, leb, ltb, length, ℤ, pos, nat_abs, ◌-ℤ◌}
+use Rattle.std.specs.Prelude.{ℕ, suc, ◌≤◌, ◌<◌, min, max, ◌≡◌, Bool, true, false, cond, ◌&&◌, Option, Some, None, List, [], ◌∷◌, map, leb, ltb, length, ℤ, pos, nat_abs, ◌-ℤ◌}
 use Rattle.std.specs.Int.Signed.{le_z}
 use Rattle.integers.specs.Compare.{min_z, max_z}
 use Rattle.plane.specs.Point.{Pt, corners}
@@ -8,54 +8,56 @@ use Rattle.limits.specs.Sizes.{is_size}
 use Rattle.bits.specs.Bits.{packed_length, packed, laid_over}
 use Rattle.stroke.specs.Sweep.{Seg, segments, path_points}
 use Rattle.extent.specs.declared.Extent.{Extent}
-use Rattle.extent.specs.declared.Extent.TheVariants as extent·
 use Rattle.extent.specs.Answer.{extent_of}
 use Rattle.stroke.specs.Runs.{any}
 use Rattle.cuts.specs.declared.cut.Cut.{Cut}
-use Rattle.cuts.specs.declared.cut.Cut.TheVariants as cut·
 use Rattle.cuts.specs.declared.Touch.{Touch}
 use Rattle.cuts.specs.declared.Touch.TheVariants as touch·
 use Rattle.cuts.specs.declared.Bounds.{Bounds}
 
+-- the columns from the left one to the right one
+abbrev pub cut_from : ℕ → ℕ → Option Cut
+cut_from left right = Some (record { left = left; right = right })
+
 -- an extent within the raster, which has the columns 0 .. columns - 1
-abbrev pub cut_to : ℕ → Extent → Cut
-cut_to columns extent·.Nothing = cut·.Nothing
-cut_to columns (extent·.Columns first last) =
-    cond (le_z (max_z first (pos 0)) (min_z last (pos columns -ℤ pos 1))) (cut·.Columns (nat_abs (max_z first (pos 0))) (nat_abs (min_z last (pos columns -ℤ pos 1)))) cut·.Nothing
+abbrev pub cut_to : ℕ → Option Extent → Option Cut
+cut_to columns None = None
+cut_to columns (Some e) =
+    cond (le_z (max_z e.first (pos 0)) (min_z e.last (pos columns -ℤ pos 1))) (cut_from (nat_abs (max_z e.first (pos 0))) (nat_abs (min_z e.last (pos columns -ℤ pos 1)))) None
 
 -- the extent of a segment, as the code answers it
-abbrev pub extent_in : List Pt → ℕ → Seg → Extent
+abbrev pub extent_in : List Pt → ℕ → Seg → Option Extent
 extent_in cs j g = extent_of cs g.from.x g.from.y g.to.x g.to.y j
 
 -- the cuts of a path's segments in row j
-abbrev pub cuts : List Pt → List Pt → ℕ → ℕ → List Cut
+abbrev pub cuts : List Pt → List Pt → ℕ → ℕ → List (Option Cut)
 cuts cs path columns j = map (λ g. cut_to columns (extent_in cs j g)) (segments path)
 
 -- the same of the lists that the code holds: the corners are the first `count` of xs and ys, and the path is a list of entries
-abbrev pub cuts_of : List ℤ → List ℤ → ℕ → List ℤ → ℕ → ℕ → List Cut
+abbrev pub cuts_of : List ℤ → List ℤ → ℕ → List ℤ → ℕ → ℕ → List (Option Cut)
 cuts_of xs ys count path columns j = cuts (corners count xs ys) (path_points path) columns j
 
 -- the columns of a cut, where it has any, are in order, and lie below n
-abbrev pub Below : ℕ → Cut → Type 0
-Below n cut = (left right : ℕ) → cut ≡ cut·.Columns left right → (left ≤ right) × (right < n)
+abbrev pub Below : ℕ → Option Cut → Type 0
+Below n cut = (c : Cut) → cut ≡ Some c → (c.left ≤ c.right) × (c.right < n)
 
-abbrev pub in_cut : ℕ → Cut → Bool
-in_cut x cut·.Nothing = false
-in_cut x (cut·.Columns l r) = leb l x && leb x r
+abbrev pub in_cut : ℕ → Option Cut → Bool
+in_cut x None = false
+in_cut x (Some c) = leb c.left x && leb x c.right
 
 -- column x is black by the cuts
-abbrev pub black_cut : List Cut → ℕ → Bool
+abbrev pub black_cut : List (Option Cut) → ℕ → Bool
 black_cut cs x = any (in_cut x) cs
 
 -- what the cuts so far and one more make
-abbrev pub touched : Touch → Cut → Touch
-touched t cut·.Nothing = t
-touched touch·.Untouched (cut·.Columns l r) = touch·.One l r
-touched (touch·.One a b) (cut·.Columns l r) = touch·.Two a b l r
-touched (touch·.Two a b c d) (cut·.Columns l r) = touch·.Several
-touched touch·.Several (cut·.Columns l r) = touch·.Several
+abbrev pub touched : Touch → Option Cut → Touch
+touched t None = t
+touched touch·.Untouched (Some c) = touch·.One c
+touched (touch·.One a) (Some c) = touch·.Two a c
+touched (touch·.Two a b) (Some c) = touch·.Several
+touched touch·.Several (Some c) = touch·.Several
 
-unfoldable pub touch_of : List Cut → Touch → Touch
+unfoldable pub touch_of : List (Option Cut) → Touch → Touch
 touch_of [] t = t
 touch_of (c ∷ cs) t = touch_of cs (touched t c)
 
@@ -64,11 +66,11 @@ unfoldable pub touch_in : List Pt → List Pt → ℕ → ℕ → Touch
 touch_in cs path columns j = elim (is_size columns) [ true ↦ touch_of (cuts cs path columns j) touch·.Untouched | false ↦ touch·.Untouched ]
 
 -- the bounds of the cuts so far and one more; an end of 0 says that there is none so far
-abbrev pub wider : Bounds → Cut → Bounds
-wider b cut·.Nothing = b
-wider b (cut·.Columns l r) = cond (ltb 0 b.end) (record { first = min b.first l; end = max b.end (suc r) }) (record { first = l; end = suc r })
+abbrev pub wider : Bounds → Option Cut → Bounds
+wider b None = b
+wider b (Some c) = cond (ltb 0 b.end) (record { first = min b.first c.left; end = max b.end (suc c.right) }) (record { first = c.left; end = suc c.right })
 
-unfoldable pub bounds_of : List Cut → Bounds → Bounds
+unfoldable pub bounds_of : List (Option Cut) → Bounds → Bounds
 bounds_of [] b = b
 bounds_of (c ∷ cs) b = bounds_of cs (wider b c)
 

@@ -1,46 +1,47 @@
 // The columns of a path's segments in a row, cut to the raster.
-ghost use Rattle.std.specs.Prelude.{◌≡◌, ◌<◌, length, get_or};
+ghost use Rattle.std.specs.Prelude.{◌≡◌, ◌<◌, Some, None, length, get_or};
 ghost use Rattle.limits.specs.Sizes.{Size};
 ghost use Rattle.stroke.specs.Sweep.{segments, path_points};
-ghost use Rattle.extent.specs.declared.Extent.TheVariants as extent·;
 ghost use Rattle.cuts.specs.Cuts.{cut_to, cuts_of, Below, touched, touch_of};
 
 use crate::Touch;
 use extent::Extent;
-use integers::{max, min};
 
-// The columns of one segment within the raster, both included, or none.
-#[derive(Clone, Copy)]
-pub enum Cut {
-    Nothing,
-    Columns(usize, usize),
+// The columns of one segment within the raster, both included.
+#[derive(Clone, Copy, PartialEq, Eq, Debug)]
+pub struct Cut {
+    pub left: usize,
+    pub right: usize,
 }
 
-// The columns from first to last that the raster has. They can lie anywhere: both are compared with
-// the raster's ends before they become unsigned.
-fn cut_span(first: i64, last: i64, columns: usize) -> Cut
+// The columns of an extent that the raster has. It can lie anywhere: both its ends are compared with
+// the raster's before they become unsigned.
+fn cut_span(e: Extent, columns: usize) -> Option<Cut>
     requires { Size columns }
-    ensures { result ≡ cut_to columns (extent·.Columns first last) }
+    ensures { result ≡ cut_to columns (Some e) }
 {
-    let l = max(first, 0);
-    let r = min(last, columns as i64 - 1);
+    let l = e.first.max(0);
+    let r = e.last.min(columns as i64 - 1);
     if l <= r {
-        return Cut::Columns(l as usize, r as usize);
+        return Some(Cut {
+            left: l as usize,
+            right: r as usize,
+        });
     }
-    Cut::Nothing
+    None
 }
 
 // What the segments so far and one more make of the row.
-fn touched(t: Touch, c: Cut) -> Touch
+fn touched(t: Touch, c: Option<Cut>) -> Touch
     ensures { result ≡ touched t c }
 {
-    let Cut::Columns(left, right) = c else {
+    let Some(cut) = c else {
         return t;
     };
     match t {
-        Touch::Untouched => Touch::One(left, right),
-        Touch::One(a, b) => Touch::Two(a, b, left, right),
-        Touch::Two(_, _, _, _) => Touch::Several,
+        Touch::Untouched => Touch::One(cut),
+        Touch::One(first) => Touch::Two(first, cut),
+        Touch::Two(_, _) => Touch::Several,
         Touch::Several => Touch::Several,
     }
 }
@@ -55,10 +56,10 @@ pub fn cut_at<'a>(
     k: usize,
     columns: usize,
     row: u64,
-) -> Cut
+) -> Option<Cut>
     requires segment { k < length (segments (path_points path.now)) }
     requires size { Size columns }
-    ensures cut { result ≡ get_or (cuts_of xs.now ys.now count path.now columns row) k Cut.Nothing }
+    ensures cut { result ≡ get_or (cuts_of xs.now ys.now count path.now columns row) k None }
     ensures below { Below columns result }
 {
     let to = segments::end_of(path, k);
@@ -72,11 +73,8 @@ pub fn cut_at<'a>(
         path[to],
         path[to + 1],
         row,
-    );
-    let Extent::Columns(first, last) = e else {
-        return Cut::Nothing;
-    };
-    cut_span(first, last, columns)
+    )?;
+    cut_span(e, columns)
 }
 
 // Several stay several, so the third segment that touches the row ends the search.
@@ -91,15 +89,12 @@ pub fn first_touches<'a>(
     requires { Size columns }
     ensures { result ≡ touch_of (cuts_of xs.now ys.now count path.now columns row) Touch.Untouched }
 {
-    let n = segments::count(path);
     let mut t = Touch::Untouched;
-    let mut k = 0;
-    while k < n {
+    for k in 0..segments::count(path) {
         t = touched(t, cut_at(xs, ys, count, path, k, columns, row));
         if let Touch::Several = t {
             return Touch::Several;
         }
-        k += 1;
     }
     t
 }

@@ -15,19 +15,22 @@ ghost use Rattle.cuts.specs.Cuts.{touch_in, Laid, laid};
 mod cut;
 mod over;
 
+pub use cut::Cut;
+
 // How many segments touch the row: none, one or two, with the columns of each in the path's order,
 // or several.
-#[derive(Drop)]
+#[derive(Clone, Copy, PartialEq, Eq, Debug)]
 pub enum Touch {
     Untouched,
-    One(usize, usize),
-    Two(usize, usize, usize, usize),
+    One(Cut),
+    Two(Cut, Cut),
     Several,
 }
 
 // No cut starts before column `first`, and none goes to column `end` or past it. Where there is no
-// cut both are 0.
-#[derive(Drop)]
+// cut both are 0: a range of no columns, which `row` reads with no case of its own, as it would need
+// for an Option.
+#[derive(Clone, Copy, PartialEq, Eq, Debug)]
 pub struct Bounds {
     pub first: usize,
     pub end: usize,

@@ -3,6 +3,7 @@ use Prim.Native.Nat.{ℕ, ◌^◌, ◌<◌}
 use mathlib.Core.Path.{◌≡◌, sym, ap, ◌∙◌, subst}
 use mathlib.Core.Bool.{true, false, ◌&&◌}
 use mathlib.Core.List.{List}
+use Rattle.std.specs.Prelude.{None}
 use lib.IntN.{ℤ, pos, neg_ℤ, ◌-ℤ◌, ◌*ℤ◌}
 use lib.Signed.{le_z}
 use borrow.Author.Tests.{ltb-true}
@@ -11,7 +12,6 @@ use Rattle.integers.proofs.Tests.{and_both, le_true}
 use Rattle.integers.proofs.Bound.{abs_iff, abs_sub}
 use Rattle.limits.proofs.Rows.{row_place}
 use Rattle.plane.specs.Point.{Pt}
-use Rattle.extent.specs.declared.Extent.TheVariants as extent·
 use Rattle.extent.specs.declared.side.Ends.{Ends}
 use Rattle.stroke.specs.Sweep.{Seg}
 use Rattle.stroke.specs.Sides.{sides}
@@ -59,11 +59,11 @@ module _ (ax ay bx by : ℤ) (j : ℕ) (e : allowed ax ay bx by j ≡ true) wher
 
 -- ---- the three answers
 module _ (cs : List Pt) (ax ay bx by : ℤ) (j : ℕ) where
-  pub none_outside : allowed ax ay bx by j ≡ false → extent·.Nothing ≡ extent_of cs ax ay bx by j
+  pub none_outside : allowed ax ay bx by j ≡ false → None ≡ extent_of cs ax ay bx by j
   unfolding extent_of
   none_outside e = rw (e, extent_of)
 
-  pub none_beyond : allowed ax ay bx by j ≡ true → reached cs (from_row (pos j) (seg ax ay bx by)) (pos 0) ≡ false → extent·.Nothing ≡ extent_of cs ax ay bx by j
+  pub none_beyond : allowed ax ay bx by j ≡ true → reached cs (from_row (pos j) (seg ax ay bx by)) (pos 0) ≡ false → None ≡ extent_of cs ax ay bx by j
   unfolding extent_of extent
   none_beyond e f = let r = sym (reached_from (pos j) cs (seg ax ay bx by)) ∙ f in rw (e, r, extent_of)
 

@@ -1,7 +1,8 @@
 -- Fractions of a row, compared by products: of the last columns up to two fractions the lesser is that of the lesser fraction.
-use mathlib.Core.Path.{◌≡◌, sym, ap, ◌∙◌}
-use mathlib.Core.Logic.{◌⊎◌, inl, inr}
-use mathlib.Core.Bool.{Bool, false, cond}
+use mathlib.Core.Path.{◌≡◌, sym, ap}
+use mathlib.Core.Logic.{inl, inr}
+use mathlib.Core.Bool.{false}
+use Rattle.std.specs.Prelude.{Some}
 use native.Mathlib.Omega.{arith}
 use lib.IntN.{ℤ, pos, ◌+ℤ◌, ◌*ℤ◌}
 use lib.Signed.{lt_z, clash_ℤ}
@@ -27,57 +28,25 @@ ordered r a s b ha hb h =
 one_more : (a b : ℤ) → a ≼ b → a +ℤ pos 1 ≼ b +ℤ pos 1
 one_more = ring 2 _ (λ ρ. simp (reify, ρ) (omega arith))
 
--- ---- a limit that is given, and one that is not
 pub not_lt : (a b : ℤ) → b ≼ a → lt_z a b ≡ false
 not_lt a b h = elim (ltz a b) [ inl k ↦ clash_ℤ k.1 h | inr k ↦ k.0 ]
 
-given : {A : Type 0} (f : Fraction) (x y : A) → pos 0 ≺ f.by → cond (lt_z (pos 0) f.by) x y ≡ x
-given f x y h = ap (λ (t : Bool). cond t x y) ((lt_iff (pos 0) f.by).1 h)
-
-missing : {A : Type 0} (f : Fraction) (x y : A) → f.by ≼ pos 0 → cond (lt_z (pos 0) f.by) x y ≡ y
-missing f x y h = ap (λ (t : Bool). cond t x y) (not_lt (pos 0) f.by h)
-
-module _ (f : Fraction) where
-  pub most_given : pos 0 ≺ f.by → at_most f ≡ at (last_to f.num f.by)
-  most_given h = given f _ free h
-
-  pub most_missing : f.by ≼ pos 0 → at_most f ≡ free
-  most_missing h = missing f _ free h
-
-  pub least_given : pos 0 ≺ f.by → at_least f ≡ at (last_to f.num f.by +ℤ pos 1)
-  least_given h = given f _ free h
-
-  pub least_missing : f.by ≼ pos 0 → at_least f ≡ free
-  least_missing h = missing f _ free h
-
--- ---- f and the fraction n / d, whose divisor is positive
-module _ (f : Fraction) (n d : ℤ) (hd : pos 0 ≺ d) where
+-- ---- f and the fraction n / d, both with positive divisors
+module _ (f : Fraction) (n d : ℤ) (h : pos 0 ≺ f.by) (hd : pos 0 ≺ d) where
   -- the lesser one
-  pub lesser_new : (f.by ≼ pos 0) ⊎ ((pos 0 ≺ f.by) × (n *ℤ f.by ≺ f.num *ℤ d)) → at_most (record { num = n; by = d }) ≡ upper (at_most f) (last_to n d)
-  lesser_new (inl h) = most_given (record { num = n; by = d }) hd ∙ sym (ap (λ (l : Limit). upper l (last_to n d)) (most_missing f h))
-  lesser_new (inr h) =
-      most_given (record { num = n; by = d }) hd
-      ∙ ap at (sym (min_second (last_to f.num f.by) (last_to n d) (ordered n d f.num f.by hd h.0 (lt_le _ _ h.1))))
-      ∙ sym (ap (λ (l : Limit). upper l (last_to n d)) (most_given f h.0))
+  pub lesser_new : n *ℤ f.by ≼ f.num *ℤ d → at (last_to n d) ≡ upper (at_most (Some f)) (last_to n d)
+  lesser_new k = ap at (sym (min_second (last_to f.num f.by) (last_to n d) (ordered n d f.num f.by hd h k)))
 
-  pub lesser_old : pos 0 ≺ f.by → f.num *ℤ d ≼ n *ℤ f.by → at_most f ≡ upper (at_most f) (last_to n d)
-  lesser_old h k =
-      most_given f h
-      ∙ ap at (sym (min_first (last_to f.num f.by) (last_to n d) (ordered f.num f.by n d h hd k)))
-      ∙ sym (ap (λ (l : Limit). upper l (last_to n d)) (most_given f h))
+  pub lesser_old : f.num *ℤ d ≼ n *ℤ f.by → at_most (Some f) ≡ upper (at_most (Some f)) (last_to n d)
+  lesser_old k = ap at (sym (min_first (last_to f.num f.by) (last_to n d) (ordered f.num f.by n d h hd k)))
 
   -- the greater one
-  pub greater_new : (f.by ≼ pos 0) ⊎ ((pos 0 ≺ f.by) × (f.num *ℤ d ≺ n *ℤ f.by)) → at_least (record { num = n; by = d }) ≡ lower (at_least f) (last_to n d +ℤ pos 1)
-  greater_new (inl h) = least_given (record { num = n; by = d }) hd ∙ sym (ap (λ (l : Limit). lower l (last_to n d +ℤ pos 1)) (least_missing f h))
-  greater_new (inr h) =
+  pub greater_new : f.num *ℤ d ≼ n *ℤ f.by → at (last_to n d +ℤ pos 1) ≡ lower (at_least (Some f)) (last_to n d +ℤ pos 1)
+  greater_new k =
       let q = last_to f.num f.by in
-      least_given (record { num = n; by = d }) hd
-      ∙ ap at (sym (max_second (q +ℤ pos 1) (last_to n d +ℤ pos 1) (one_more q (last_to n d) (ordered f.num f.by n d h.0 hd (lt_le _ _ h.1)))))
-      ∙ sym (ap (λ (l : Limit). lower l (last_to n d +ℤ pos 1)) (least_given f h.0))
+      ap at (sym (max_second (q +ℤ pos 1) (last_to n d +ℤ pos 1) (one_more q (last_to n d) (ordered f.num f.by n d h hd k))))
 
-  pub greater_old : pos 0 ≺ f.by → n *ℤ f.by ≼ f.num *ℤ d → at_least f ≡ lower (at_least f) (last_to n d +ℤ pos 1)
-  greater_old h k =
+  pub greater_old : n *ℤ f.by ≼ f.num *ℤ d → at_least (Some f) ≡ lower (at_least (Some f)) (last_to n d +ℤ pos 1)
+  greater_old k =
       let q = last_to f.num f.by in
-      least_given f h
-      ∙ ap at (sym (max_first (q +ℤ pos 1) (last_to n d +ℤ pos 1) (one_more (last_to n d) q (ordered n d f.num f.by hd h k))))
-      ∙ sym (ap (λ (l : Limit). lower l (last_to n d +ℤ pos 1)) (least_given f h))
+      ap at (sym (max_first (q +ℤ pos 1) (last_to n d +ℤ pos 1) (one_more (last_to n d) q (ordered n d f.num f.by hd h k))))

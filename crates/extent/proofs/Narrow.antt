@@ -1,6 +1,7 @@
 -- One side narrows the columns by one of three rules, by the sign of its normal's part to the right; and what is answered of the columns that are left.
 use mathlib.Core.Path.{◌≡◌, refl, sym, ap, ◌∙◌}
 use mathlib.Core.Bool.{Bool, true, false, cond, ◌&&◌}
+use Rattle.std.specs.Prelude.{Option, Some, None}
 use lib.IntN.{ℤ, pos, neg_ℤ, ◌+ℤ◌, ◌*ℤ◌, +ℤ_idl}
 use lib.Signed.{le_z, lt_z}
 use Rattle.integers.specs.Orders.{◌≼◌, ◌≺◌}
@@ -11,13 +12,12 @@ use Rattle.plane.specs.Polygon.{Side}
 use Rattle.extent.specs.declared.limit.Fraction.{Fraction}
 use Rattle.extent.specs.declared.limit.Limits.{Limits}
 use Rattle.stroke.specs.Sweep.{centre}
-use Rattle.stroke.specs.Extent.{none, columns, within, Limit, free, at, room, upper, lower, narrow, span_of}
+use Rattle.stroke.specs.Extent.{none, columns, within, Limit, free, at, room, upper, lower, narrow, span_between, span_of}
 use Rattle.extent.specs.Answer.{answered}
-use Rattle.extent.specs.declared.Extent.TheVariants as extent·
 use Rattle.extent.specs.Held.{last_to, at_most, at_least, left, flat_leaves}
 use Rattle.ties.specs.Kept.{kept}
 use Rattle.extent.proofs.FromRow.{no_less}
-use Rattle.extent.proofs.Fractions.{not_lt, least_given, least_missing, most_given, most_missing}
+use Rattle.extent.proofs.Fractions.{not_lt}
 
 -- in row 0 the room of a side is its offset, and the row's centres are at 0 along the normal of a flat one
 room_here : (e : Side) → room (pos 0) e ≡ e.c
@@ -29,13 +29,13 @@ within_here e h =
 
 module _ (e : Side) (s : Limits) where
   -- to the right
-  pub narrow_right : (f : Fraction) → pos 0 ≺ e.a → at_most f ≡ upper (at_most s.most) (last_to e.c e.a) →
+  pub narrow_right : (f : Option Fraction) → pos 0 ≺ e.a → at_most f ≡ upper (at_most s.most) (last_to e.c e.a) →
       left (record { some = s.some; least = s.least; most = f }) ≡ narrow (pos 0) e (left s)
   narrow_right f h k =
       rw (room_here e, (lt_iff (pos 0) e.a).1 h) (ap (λ (l : Limit). record { some = s.some; least = at_least s.least; most = l }) k)
 
   -- to the left
-  pub narrow_left : (f : Fraction) → e.a ≺ pos 0 → at_least f ≡ lower (at_least s.least) (last_to (neg_ℤ e.c) (neg_ℤ e.a) +ℤ pos 1) →
+  pub narrow_left : (f : Option Fraction) → e.a ≺ pos 0 → at_least f ≡ lower (at_least s.least) (last_to (neg_ℤ e.c) (neg_ℤ e.a) +ℤ pos 1) →
       left (record { some = s.some; least = f; most = s.most }) ≡ narrow (pos 0) e (left s)
   narrow_left f h k =
       rw (room_here e, not_lt (pos 0) e.a (lt_le e.a (pos 0) h), (lt_iff e.a (pos 0)).1 h)
@@ -50,25 +50,29 @@ module _ (e : Side) (s : Limits) where
 
 -- ---- the columns that are left
 module _ (s : Limits) where
-  pub nothing_flat : s.some ≡ false → extent·.Nothing ≡ answered (span_of (left s))
+  pub nothing_flat : s.some ≡ false → None ≡ answered (span_of (left s))
   nothing_flat h = rw h
 
-  pub nothing_least : s.least.by ≼ pos 0 → extent·.Nothing ≡ answered (span_of (left s))
-  nothing_least h = go s.some
+  pub nothing_least : s.least ≡ None → None ≡ answered (span_of (left s))
+  nothing_least h = rw h (go s.some)
     where
-      go : (t : Bool) → extent·.Nothing ≡ answered (span_of (record { some = t; least = at_least s.least; most = at_most s.most }))
-      go true = rw (least_missing s.least h)
+      go : (t : Bool) → None ≡ answered (span_of (record { some = t; least = free; most = at_most s.most }))
+      go true = missing (at_most s.most)
+        where
+          missing : (r : Limit) → None ≡ answered (span_between free r)
+          missing free = refl
+          missing (at q) = refl
       go false = refl
 
-  pub nothing_most : s.most.by ≼ pos 0 → extent·.Nothing ≡ answered (span_of (left s))
-  nothing_most h = go s.some (at_least s.least)
+  pub nothing_most : s.most ≡ None → None ≡ answered (span_of (left s))
+  nothing_most h = rw h (go s.some (at_least s.least))
     where
-      go : (t : Bool) (l : Limit) → extent·.Nothing ≡ answered (span_of (record { some = t; least = l; most = at_most s.most }))
+      go : (t : Bool) (l : Limit) → None ≡ answered (span_of (record { some = t; least = l; most = free }))
       go true free = refl
-      go true (at q) = rw (most_missing s.most h)
+      go true (at q) = refl
       go false l = refl
 
-  module _ (some : s.some ≡ true) (l : pos 0 ≺ s.least.by) (r : pos 0 ≺ s.most.by) where
-    pub columns_between : (t : Bool) → le_z (last_to s.least.num s.least.by +ℤ pos 1) (last_to s.most.num s.most.by) ≡ t →
-        answered (span_of (left s)) ≡ answered (cond t (columns (last_to s.least.num s.least.by +ℤ pos 1) (last_to s.most.num s.most.by)) none)
-    columns_between t e = rw (some, least_given s.least l, most_given s.most r, e)
+  module _ {l r : Fraction} (some : s.some ≡ true) (least : s.least ≡ Some l) (most : s.most ≡ Some r) where
+    pub columns_between : (t : Bool) → le_z (last_to l.num l.by +ℤ pos 1) (last_to r.num r.by) ≡ t →
+        answered (span_of (left s)) ≡ answered (cond t (columns (last_to l.num l.by +ℤ pos 1) (last_to r.num r.by)) none)
+    columns_between t e = rw (some, least, most, e)

@@ -1,8 +1,9 @@
 -- What the code's structs hold, in the words of the definitions. These are asked and promised inside the crate only; no promise to its callers is made
 -- of them.
-use Rattle.std.specs.Prelude.{ℕ, ◌^◌, ◌≤◌, Bool, true, cond, List, length, ℤ, pos, ◌+ℤ◌, ◌-ℤ◌, ◌*ℤ◌}
+use Rattle.std.specs.Prelude.{ℕ, ◌^◌, ◌≤◌, Bool, true, cond, Option, Some, None, List, length, ℤ, pos, ◌+ℤ◌, ◌-ℤ◌, ◌*ℤ◌}
 use Rattle.std.specs.Int.Signed.{le_z, lt_z}
 use Rattle.integers.specs.Bound.{Abs}
+use Rattle.integers.specs.Orders.{◌≺◌}
 use Rattle.integers.specs.Floor.{floor_div}
 use Rattle.plane.specs.Point.{Pt, pt}
 use Rattle.extent.specs.declared.limit.Fraction.{Fraction}
@@ -13,15 +14,17 @@ use Rattle.ties.specs.Kept.{kept}
 use Rattle.stroke.specs.Sweep.{Seg}
 use Rattle.stroke.specs.Extent.{Limit, free, at, Left}
 
--- the last column up to the fraction num / by of sixteenths, and the first column past it; no limit where by is not positive
+-- the last column up to the fraction num / by of sixteenths, and the first column past it
 abbrev pub last_to : ℤ → ℤ → ℤ
 last_to num by = floor_div num (pos 16 *ℤ by)
 
-abbrev pub at_most : Fraction → Limit
-at_most f = cond (lt_z (pos 0) f.by) (at (last_to f.num f.by)) free
+abbrev pub at_most : Option Fraction → Limit
+at_most None = free
+at_most (Some f) = at (last_to f.num f.by)
 
-abbrev pub at_least : Fraction → Limit
-at_least f = cond (lt_z (pos 0) f.by) (at (last_to f.num f.by +ℤ pos 1)) free
+abbrev pub at_least : Option Fraction → Limit
+at_least None = free
+at_least (Some f) = at (last_to f.num f.by +ℤ pos 1)
 
 abbrev pub left : Limits → Left
 left s = record { some = s.some; least = at_least s.least; most = at_most s.most }
@@ -39,10 +42,19 @@ pub record Fair (f : Fraction) : Type 0 where
   pub num_small : Abs f.num (2 ^ 40)
   pub by_small : Abs f.by (2 ^ 20)
 
--- both fractions are so
+-- a limit is so, and its divisor is positive
+pub record Limiting (f : Fraction) : Type 0 where
+  pub positive : pos 0 ≺ f.by
+  pub fair : Fair f
+
+abbrev pub FairLimit : Option Fraction → Type 0
+FairLimit None = Unit {0}
+FairLimit (Some f) = Limiting f
+
+-- both limits are, where there are such
 pub record Steady (s : Limits) : Type 0 where
-  pub least : Fair s.least
-  pub most : Fair s.most
+  pub least : FairLimit s.least
+  pub most : FairLimit s.most
 
 -- a corner's numbers, which a byte holds
 pub record Corner (x y : ℤ) : Type 0 where

@@ -12,7 +12,6 @@ ghost use Rattle.limits.specs.Sizes.{in_range, raster_max};
 ghost use Rattle.extent.specs.Answer.{allowed, seg, extent_of};
 ghost use Rattle.extent.specs.Held.{ends, from_row};
 
-use integers::min_usize;
 use pen::Pen;
 
 mod limit;
@@ -20,11 +19,11 @@ mod side;
 
 use side::Ends;
 
-// The first and the last black column, which may lie outside any raster; or none.
-#[derive(Drop)]
-pub enum Extent {
-    Nothing,
-    Columns(i64, i64),
+// The first and the last black column, which may lie outside any raster.
+#[derive(Clone, Copy, PartialEq, Eq, Debug)]
+pub struct Extent {
+    pub first: i64,
+    pub last: i64,
 }
 
 // Whether both coordinates of a point are within document 01's limits.
@@ -49,15 +48,15 @@ fn from_row(ax: i32, ay: i32, bx: i32, by: i32, row: u64) -> Ends
 {
     let at = 16 * (row as i64);
     Ends {
-        ax: ax as i64,
-        ay: ay as i64 - at,
-        bx: bx as i64,
-        by: by as i64 - at,
+        ax: i64::from(ax),
+        ay: i64::from(ay) - at,
+        bx: i64::from(bx),
+        by: i64::from(by) - at,
     }
 }
 
 // The extent of the segment from A to B in a row, for the pen whose corners are the first `count`
-// places of xs and ys, in half pixels. Path coordinates count sixteenths of a pixel. Nothing
+// places of xs and ys, in half pixels. Path coordinates count sixteenths of a pixel. None
 // outside document 01's limits.
 pub fn extent_at<'a>(
     xs: &'a [i8],
@@ -68,24 +67,24 @@ pub fn extent_at<'a>(
     bx: i32,
     by: i32,
     row: u64,
-) -> Extent
+) -> Option<Extent>
     ensures { result ≡ extent_of (corners count xs.now ys.now) ax ay bx by row }
 {
     if !allowed(ax, ay, bx, by, row) {
-        return Extent::Nothing;
+        return None;
     }
     // Corners that the arrays do not have are none.
-    let n = min_usize(count, min_usize(xs.len(), ys.len()));
+    let n = count.min(xs.len().min(ys.len()));
     let g = from_row(ax, ay, bx, by, row);
     // Most rows miss most segments.
     if !side::reached(ys, n, g) {
-        return Extent::Nothing;
+        return None;
     }
     limit::columns(side::narrowed(xs, ys, n, g))
 }
 
 // The same for a pen.
-pub fn extent_of(pen: Pen, ax: i32, ay: i32, bx: i32, by: i32, row: u64) -> Extent
+pub fn extent_of(pen: Pen, ax: i32, ay: i32, bx: i32, by: i32, row: u64) -> Option<Extent>
     ensures { result ≡ extent_of (pen_corners pen) ax ay bx by row }
 {
     extent_at(&pen.x, &pen.y, pen.count, ax, ay, bx, by, row)

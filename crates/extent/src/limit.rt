@@ -1,26 +1,26 @@
 // What the sides of a sweep leave of a row: the least and the greatest column, kept as fractions,
 // so that a side costs two products and no division. Heights count from the row, so that it is row 0.
-ghost use Rattle.std.specs.Prelude.{◌≡◌, pos, ◌+ℤ◌};
-ghost use Rattle.integers.specs.Orders.{◌≺◌};
+ghost use Rattle.std.specs.Prelude.{◌≡◌, Some, pos, ◌+ℤ◌};
 ghost use Rattle.stroke.specs.Extent.{upper, lower, narrow, span_of};
 ghost use Rattle.extent.specs.Answer.{answered};
-ghost use Rattle.extent.specs.Held.{last_to, at_most, at_least, left, flat_leaves, start, Fair, Steady};
+ghost use Rattle.extent.specs.Held.{last_to, at_most, at_least, left, flat_leaves, start, Fair, Limiting, FairLimit, Steady};
 
 use crate::Extent;
 
-// num / by, in sixteenths of a pixel. A `by` of 0: no limit yet.
+// num / by, in sixteenths of a pixel, for a positive `by`.
 #[derive(Clone, Copy)]
 pub struct Fraction {
     pub num: i64,
     pub by: i64,
 }
 
-// Whether a flat side leaves any column; the columns lie past `least` and reach up to `most`.
+// Whether a flat side leaves any column; the columns lie past `least` and reach up to `most`, where
+// there are such limits.
 #[derive(Clone, Copy)]
 pub struct Limits {
     pub some: bool,
-    pub least: Fraction,
-    pub most: Fraction,
+    pub least: Option<Fraction>,
+    pub most: Option<Fraction>,
 }
 
 // Before the first side: no limits.
@@ -30,38 +30,36 @@ pub fn all() -> Limits
 {
     Limits {
         some: true,
-        least: Fraction { num: 0, by: 0 },
-        most: Fraction { num: 0, by: 0 },
+        least: None,
+        most: None,
     }
 }
 
-// The lesser of f and num / by. Both divisors are positive, so that the products compare as the
+// The lesser of f and a new limit. Both divisors are positive, so that the products compare as the
 // fractions do.
-fn lesser(f: Fraction, num: i64, by: i64) -> Fraction
-    requires old { Fair f }
-    requires positive { pos 0 ≺ by }
-    requires new { Fair (record { num = num; by = by }) }
-    ensures answer { at_most result ≡ upper (at_most f) (last_to num by) }
-    ensures fair { Fair result }
+fn lesser(f: Option<Fraction>, new: Fraction) -> Fraction
+    requires old { FairLimit f }
+    requires new { Limiting new }
+    ensures answer { at_most (Some result) ≡ upper (at_most f) (last_to new.num new.by) }
+    ensures fair { Limiting result }
 {
-    if f.by <= 0 || num * f.by < f.num * by {
-        return Fraction { num: num, by: by };
+    match f {
+        Some(old) if old.num * new.by <= new.num * old.by => old,
+        _ => new,
     }
-    f
 }
 
-// The greater of f and num / by.
-fn greater(f: Fraction, num: i64, by: i64) -> Fraction
-    requires old { Fair f }
-    requires positive { pos 0 ≺ by }
-    requires new { Fair (record { num = num; by = by }) }
-    ensures answer { at_least result ≡ lower (at_least f) (last_to num by +ℤ pos 1) }
-    ensures fair { Fair result }
+// The greater of f and a new limit.
+fn greater(f: Option<Fraction>, new: Fraction) -> Fraction
+    requires old { FairLimit f }
+    requires new { Limiting new }
+    ensures answer { at_least (Some result) ≡ lower (at_least f) (last_to new.num new.by +ℤ pos 1) }
+    ensures fair { Limiting result }
 {
-    if f.by <= 0 || f.num * by < num * f.by {
-        return Fraction { num: num, by: by };
+    match f {
+        Some(old) if new.num * old.by <= old.num * new.by => old,
+        _ => new,
     }
-    f
 }
 
 // Whether a flat side leaves the row: it has room there, or none and is kept.
@@ -82,44 +80,41 @@ pub fn narrow(s: Limits, a: i64, b: i64, room: i64) -> Limits
     ensures answer { left result ≡ narrow (pos 0) (record { a = a; b = b; c = room }) (left s) }
     ensures steady { Steady result }
 {
-    let least = s.least;
-    let most = s.most;
     if 0 < a {
+        let most = lesser(s.most, Fraction { num: room, by: a });
         return Limits {
-            some: s.some,
-            least: least,
-            most: lesser(most, room, a),
+            most: Some(most),
+            ..s
         };
     }
     if a < 0 {
+        let least = greater(s.least, Fraction { num: -room, by: -a });
         return Limits {
-            some: s.some,
-            least: greater(least, -room, -a),
-            most: most,
+            least: Some(least),
+            ..s
         };
     }
     Limits {
         some: s.some && leaves(b, room),
-        least: least,
-        most: most,
+        ..s
     }
 }
 
 // The columns that are left. The only divisions: one for each end.
-pub fn columns(s: Limits) -> Extent
+pub fn columns(s: Limits) -> Option<Extent>
     requires { Steady s }
     ensures { result ≡ answered (span_of (left s)) }
 {
-    let least = s.least;
-    let most = s.most;
-    if !s.some || least.by <= 0 || most.by <= 0 {
-        return Extent::Nothing;
+    if !s.some {
+        return None;
     }
+    let least = s.least?;
+    let most = s.most?;
     let first = integers::floor_div(least.num, 16 * least.by) + 1;
     let last = integers::floor_div(most.num, 16 * most.by);
     if first <= last {
-        Extent::Columns(first, last)
+        Some(Extent { first, last })
     } else {
-        Extent::Nothing
+        None
     }
 }

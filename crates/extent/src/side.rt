@@ -9,7 +9,6 @@ ghost use Rattle.stroke.specs.Extent.{narrow, narrowed, reached};
 ghost use Rattle.extent.specs.Held.{left, start, Steady, Way, Corner, Near, Reaching, ends, Held};
 
 use crate::limit::{Limits, all, narrow};
-use integers::{max, min, wide};
 
 // The ends A and B of a segment, in sixteenths of a pixel. Their heights count from the row that is
 // asked for, which so is row 0: what room a side has in it takes no product with the row.
@@ -41,12 +40,12 @@ fn edge(s: Limits, g: Ends, px: i64, py: i64, qx: i64, qy: i64) -> Limits
     let a = qy - py;
     let b = px - qx;
     let at_a = a * (8 * px + g.ax) + b * (8 * py + g.ay);
-    let further = max(a * (g.bx - g.ax) + b * (g.by - g.ay), 0);
+    let further = (a * (g.bx - g.ax) + b * (g.by - g.ay)).max(0);
     narrow(s, a, b, at_a + further)
 }
 
 // All edges, from the last back to the first, since their order is no matter: the corner P of one is
-// the Q of the one before it, so that each corner is read once, and i is all that counts.
+// the Q of the one before it, so that each corner is read once.
 fn edges<'a>(s: Limits, xs: &'a [i8], ys: &'a [i8], n: usize, g: Ends) -> Limits
     requires steady { Steady s }
     requires held { Held n xs.now ys.now }
@@ -58,13 +57,11 @@ fn edges<'a>(s: Limits, xs: &'a [i8], ys: &'a [i8], n: usize, g: Ends) -> Limits
         return s;
     }
     let mut r = s;
-    let mut qx = wide(xs[0]);
-    let mut qy = wide(ys[0]);
-    let mut i = n;
-    while i > 0 {
-        i -= 1;
-        let px = wide(xs[i]);
-        let py = wide(ys[i]);
+    let mut qx = i64::from(xs[0]);
+    let mut qy = i64::from(ys[0]);
+    for i in (0..n).rev() {
+        let px = i64::from(xs[i]);
+        let py = i64::from(ys[i]);
         r = edge(r, g, px, py, qx, qy);
         qx = px;
         qy = py;
@@ -83,14 +80,10 @@ fn furthest<'a>(xs: &'a [i8], ys: &'a [i8], n: usize, u: i64, v: i64) -> Beside
 {
     let mut most = 0;
     let mut least = 0;
-    let mut i = n;
-    while i > 0 {
-        i -= 1;
-        let x = wide(xs[i]);
-        let y = wide(ys[i]);
-        let t = v * x - u * y;
-        most = max(t, most);
-        least = min(t, least);
+    for i in (0..n).rev() {
+        let t = v * i64::from(xs[i]) - u * i64::from(ys[i]);
+        most = t.max(most);
+        least = t.min(least);
     }
     Beside {
         right: most,
@@ -137,7 +130,7 @@ fn reach(ys: &[i8], n: usize) -> i64
     if n == 0 {
         return 0;
     }
-    -wide(ys[0])
+    -i64::from(ys[0])
 }
 
 // Whether the row is within the segment's reach.
@@ -147,5 +140,5 @@ pub fn reached(ys: &[i8], n: usize, g: Ends) -> bool
     ensures { (xs : List ℤ) → n ≤ length xs → result ≡ reached (corners n xs ys.now) (ends g) (pos 0) }
 {
     let far = 8 * reach(ys, n);
-    min(g.ay, g.by) - far <= 0 && 0 <= max(g.ay, g.by) + far
+    g.ay.min(g.by) - far <= 0 && 0 <= g.ay.max(g.by) + far
 }

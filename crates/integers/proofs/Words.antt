@@ -61,6 +61,13 @@ widened f e =
     let small = fits_abs f in
     got (subst (SFits w64) (sym h) (abs_fits small tt)) h small
 
+-- and of a number of any other width that 64 bits hold
+pub widened_from : {v : Width} {r x : ℤ} → SFits v x → r ≡ to_z v (of_z v x) → T (ltb (2 ^ hbits v) (2 ^ hbits w64)) → Is w64 x (of_z w64 r) (2 ^ hbits v)
+widened_from f e t =
+    let h = e ∙ to_z-of_z f in
+    let small = fits_abs f in
+    got (subst (SFits w64) (sym h) (abs_fits small t)) h small
+
 -- the opposite number
 pub opposite : {x : ℤ} {m n : ℕ} → Is w64 x m n → T (ltb (0 + n) (2 ^ hbits w64)) → Is w64 (neg_ℤ x) (bits (pos 0) ⊖ m) (0 + n)
 opposite {x} p t = along (+ℤ_idl (neg_ℤ x)) (sub (num (pos 0) tt) p t)

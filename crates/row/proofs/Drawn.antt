@@ -11,6 +11,7 @@ use Rattle.stroke.specs.Sweep.{path_points}
 use Rattle.stroke.specs.Runs.{runs_of, row_runs}
 use Rattle.stroke.proofs.Runs.{runs_ext}
 use Rattle.cuts.specs.declared.Bounds.{Bounds}
+use Rattle.cuts.specs.declared.cut.Cut.{Cut}
 use Rattle.cuts.specs.declared.Touch.TheVariants as touch·
 use Rattle.cuts.specs.Cuts.{touch_in, laid}
 use Rattle.cuts.proofs.Segments.{drawable_near}
@@ -24,17 +25,17 @@ module _ (cs : List Pt) (p : List ℤ) (columns j : ℕ) (drawable : Drawable p 
   pub runs_untouched : touch_in cs (path_points p) columns j ≡ touch·.Untouched → row_runs cs (path_points p) columns j ≡ []
   runs_untouched e = runs_none columns _ (untouched cs (path_points p) columns j drawable.size (drawable_near drawable) e)
 
-  pub runs_touched : (a b : ℕ) → touch_in cs (path_points p) columns j ≡ touch·.One a b → row_runs cs (path_points p) columns j ≡ record { left = a; right = b } ∷ []
-  runs_touched a b e =
-      let i = once_in cs (path_points p) columns j drawable.size a b e in
-      runs_one a b columns i.0 i.1 _ (touched_once cs (path_points p) columns j drawable.size (drawable_near drawable) a b e)
+  pub runs_touched : (c : Cut) → touch_in cs (path_points p) columns j ≡ touch·.One c → row_runs cs (path_points p) columns j ≡ record { left = c.left; right = c.right } ∷ []
+  runs_touched c e =
+      let i = once_in cs (path_points p) columns j drawable.size c e in
+      runs_one c.left c.right columns i.0 i.1 _ (touched_once cs (path_points p) columns j drawable.size (drawable_near drawable) c e)
 
-  pub runs_twice : (a b c d : ℕ) → touch_in cs (path_points p) columns j ≡ touch·.Two a b c d →
-      row_runs cs (path_points p) columns j ≡ together (record { left = a; right = b }) (record { left = c; right = d })
-  runs_twice a b c d e =
-      let i = twice_in cs (path_points p) columns j drawable.size a b c d e in
-      runs_two (record { left = a; right = b }) (record { left = c; right = d }) columns _
-      (touched_twice cs (path_points p) columns j drawable.size (drawable_near drawable) a b c d e) i.0.0 i.0.1 i.1.0 i.1.1
+  pub runs_twice : (c d : Cut) → touch_in cs (path_points p) columns j ≡ touch·.Two c d →
+      row_runs cs (path_points p) columns j ≡ together (record { left = c.left; right = c.right }) (record { left = d.left; right = d.right })
+  runs_twice c d e =
+      let i = twice_in cs (path_points p) columns j drawable.size c d e in
+      runs_two (record { left = c.left; right = c.right }) (record { left = d.left; right = d.right }) columns _
+      (touched_twice cs (path_points p) columns j drawable.size (drawable_near drawable) c d e) i.0.0 i.0.1 i.1.0 i.1.1
 
   -- laid over clear bytes
   pub runs_bits : (n : ℕ) → packed_length columns ≤ n → {c : List ℕ} {b : Bounds} → record { bytes = c; bounds = b } ≡ laid cs (path_points p) columns j (replicate n 0) →

@@ -13,8 +13,8 @@ use Rattle.stroke.specs.Extent.{Span, extent}
 use Rattle.stroke.specs.Runs.{runs_of, in_span, any, row_runs}
 use Rattle.stroke.proofs.Runs.{runs_ext}
 use Rattle.extent.specs.Answer.{answered}
+use Rattle.std.specs.Prelude.{Option, Some, None}
 use Rattle.cuts.specs.declared.cut.Cut.{Cut}
-use Rattle.cuts.specs.declared.cut.Cut.TheVariants as cut·
 use Rattle.cuts.specs.Cuts.{cut_to, in_cut, Below}
 use Rattle.cuts.proofs.Raster.{in_cut_lem, cut_below}
 use Rattle.segments.proofs.Ends.{start_in}
@@ -58,9 +58,9 @@ runs_both f g zero = omega arith
 runs_both f g (suc n) = omega (arith, runs_next (λ x. f x || g x) n, runs_next f n, runs_next g n, both_start f g n, runs_both f g n)
 
 -- ---- the columns of one segment
-cut_few : (c : Cut) (columns : ℕ) → Below columns c → length (runs_of (λ x. in_cut x c) columns) ≤ 1
-cut_few cut·.Nothing columns w = omega (arith, ap length (runs_none columns (λ x. false) (λ x h. refl)))
-cut_few (cut·.Columns l r) columns w = let i = w l r refl in omega (arith, ap length (runs_one l r columns i.0 i.1 (λ x. in_cut x (cut·.Columns l r)) (λ x h. refl)))
+cut_few : (c : Option Cut) (columns : ℕ) → Below columns c → length (runs_of (λ x. in_cut x c) columns) ≤ 1
+cut_few None columns w = omega (arith, ap length (runs_none columns (λ x. false) (λ x h. refl)))
+cut_few (Some c) columns w = let i = w c refl in omega (arith, ap length (runs_one c.left c.right columns i.0 i.1 (λ x. in_cut x (Some c)) (λ x h. refl)))
 
 span_few : (s : Span) (columns : ℕ) → length (runs_of (λ x. in_span s (pos x)) columns) ≤ 1
 span_few s columns =

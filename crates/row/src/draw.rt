@@ -110,8 +110,8 @@ pub fn draw_runs<'a>(
 {
     match cuts::touching(xs, ys, count, path, columns, row) {
         Touch::Untouched => checks::done(0),
-        Touch::One(left, right) => write_single(runs, left, right),
-        Touch::Two(a, b, c, d) => write_two(runs, a, b, c, d),
+        Touch::One(c) => write_single(runs, c.left, c.right),
+        Touch::Two(a, b) => write_two(runs, a.left, a.right, b.left, b.right),
         Touch::Several => several_runs(runs, xs, ys, count, path, columns, row),
     }
 }

@@ -8,7 +8,6 @@
 
 mod answer;
 
-use extent::Extent;
 use pen::Pen;
 use std::io::Stdout;
 
@@ -19,11 +18,11 @@ fn write(to: Stdout, s: &[u8], pen: Pen) -> bool {
     let bx = wire::signed(s, 32);
     let by = wire::signed(s, 36);
     let row = wire::number(s, 40);
-    let Extent::Columns(first, last) = extent::extent_of(pen, ax, ay, bx, by, row) else {
+    let Some(e) = extent::extent_of(pen, ax, ay, bx, by, row) else {
         let nothing = [0u8; 1];
         return tell::put(to, &nothing);
     };
-    let out = answer::columns(first, last);
+    let out = answer::columns(e.first, e.last);
     tell::put(to, &out)
 }
 

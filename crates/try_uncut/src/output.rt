@@ -31,8 +31,8 @@ pub fn put_answer(rt: HostRuntime, a: Answer) -> bool {
     put_number(rt, a.refusal) && put_number(rt, a.place) && put_number(rt, a.count)
 }
 
-pub fn put_extent(rt: HostRuntime, e: Extent) -> bool {
-    let Extent::Columns(first, last) = e else {
+pub fn put_extent(rt: HostRuntime, e: Option<Extent>) -> bool {
+    let Some(Extent { first, last }) = e else {
         return put_number(rt, 0) && put_number(rt, 0) && put_number(rt, 0);
     };
     put_number(rt, 1) && put_signed(rt, first) && put_signed(rt, last)

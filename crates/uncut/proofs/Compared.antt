@@ -14,8 +14,8 @@ use Rattle.stroke.specs.Sweep.{path_points}
 use Rattle.stroke.specs.Extent.{Span, extent}
 use Rattle.stroke.specs.Runs.{runs_of, row_runs, in_span}
 use Rattle.extent.specs.Answer.{answered}
+use Rattle.std.specs.Prelude.{Option, Some, None}
 use Rattle.cuts.specs.declared.cut.Cut.{Cut}
-use Rattle.cuts.specs.declared.cut.Cut.TheVariants as cut·
 use Rattle.cuts.specs.Cuts.{cut_to, in_cut}
 use Rattle.cuts.proofs.Raster.{in_cut_lem, cut_below}
 use Rattle.checks.specs.Checks.{verdict, call_verdict}
@@ -39,11 +39,11 @@ use Rattle.uncut.proofs.Pixels.{pen_extent}
 span_runs : (s : Span) (columns : ℕ) → runs_of (λ x. in_span s (pos x)) columns ≡ run_of (cut_to columns (answered s))
 span_runs s columns = go (cut_to columns (answered s)) refl
   where
-    go : (c : Cut) → cut_to columns (answered s) ≡ c → runs_of (λ x. in_span s (pos x)) columns ≡ run_of c
-    go cut·.Nothing e = runs_none columns _ (λ x h. in_cut_lem s x columns h ∙ ap (in_cut x) e)
-    go (cut·.Columns l r) e =
-        let b = cut_below (answered s) refl l r e in
-        runs_one l r columns b.0 b.1 _ (λ x h. in_cut_lem s x columns h ∙ ap (in_cut x) e)
+    go : (c : Option Cut) → cut_to columns (answered s) ≡ c → runs_of (λ x. in_span s (pos x)) columns ≡ run_of c
+    go None e = runs_none columns _ (λ x h. in_cut_lem s x columns h ∙ ap (in_cut x) e)
+    go (Some c) e =
+        let b = cut_below (answered s) refl c e in
+        runs_one c.left c.right columns b.0 b.1 _ (λ x h. in_cut_lem s x columns h ∙ ap (in_cut x) e)
 
 module _ (t : Table) (n : ℕ) (p : List ℤ) (columns rows j : ℕ) (h : Entries p) where
   -- a row call that has passed its checks has passed those of a call without a raster

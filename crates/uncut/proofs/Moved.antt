@@ -17,8 +17,8 @@ use Rattle.stroke.specs.Sweep.{Seg, path_points, centre}
 use Rattle.stroke.specs.Black.{Black, BlackPath}
 use Rattle.stroke.specs.Theorems.{shifted, shifted_seg}
 use Rattle.stroke.proofs.Theorems.{black_shifted}
+use Rattle.std.specs.Prelude.{Option, Some, None}
 use Rattle.extent.specs.declared.Extent.{Extent}
-use Rattle.extent.specs.declared.Extent.TheVariants as extent·
 use Rattle.checks.proofs.Entries.{Entries, dot, line}
 use Rattle.engine.proofs.OneSegment.{segment_of, one_segment}
 use Rattle.uncut.specs.Uncut.{reached_in}
@@ -36,13 +36,13 @@ over = ring 3 _ (simp reify (omega arith))
 under : (b i d : ℤ) → (i -ℤ d ≼ b) ↔ (i ≼ b +ℤ d)
 under = ring 3 _ (simp reify (omega arith))
 
-further_spans : (black black' : ℤ → Type 0) (d : ℤ) → ((i : ℤ) → black (i -ℤ d) ↔ black' i) → (e : Extent) → Spans black e → Spans black' (further d e)
-further_spans black black' d f extent·.Nothing s = λ i b. s (i -ℤ d) ((f i).1 b)
-further_spans black black' d f (extent·.Columns first last) s = (
-  ahead first last d s.0,
+further_spans : (black black' : ℤ → Type 0) (d : ℤ) → ((i : ℤ) → black (i -ℤ d) ↔ black' i) → (e : Option Extent) → Spans black e → Spans black' (further d e)
+further_spans black black' d f None s = λ i b. s (i -ℤ d) ((f i).1 b)
+further_spans black black' d f (Some e) s = (
+  ahead e.first e.last d s.0,
   λ i. (
-    (λ b. let r = (s.1 (i -ℤ d)).0 ((f i).1 b) in ((over first i d).0 r.0, (under last i d).0 r.1)),
-    λ r. (f i).0 ((s.1 (i -ℤ d)).1 ((over first i d).1 r.0, (under last i d).1 r.1)),
+    (λ b. let r = (s.1 (i -ℤ d)).0 ((f i).1 b) in ((over e.first i d).0 r.0, (under e.last i d).0 r.1)),
+    λ r. (f i).0 ((s.1 (i -ℤ d)).1 ((over e.first i d).1 r.0, (under e.last i d).1 r.1)),
   ),
 )
 

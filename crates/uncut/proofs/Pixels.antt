@@ -36,9 +36,9 @@ use Rattle.stroke.specs.Black.{Black, BlackPath}
 use Rattle.stroke.specs.Extent.{Span, none, columns, In, extent}
 use Rattle.stroke.proofs.Theorems.{extent_black, black_sideways}
 use Rattle.outline.proofs.Spans.{Proper, extent_proper}
+use Rattle.std.specs.Prelude.{Option, Some, None}
 use Rattle.extent.specs.declared.Extent.{Extent}
-use Rattle.extent.specs.declared.Extent.TheVariants as extent·
-use Rattle.extent.specs.Answer.{answered}
+use Rattle.extent.specs.Answer.{answered, spanned}
 use Rattle.checks.proofs.Verdicts.{verdict_passed}
 use Rattle.flanks.proofs.Bound.{range_abs}
 use Rattle.engine.proofs.OneSegment.{segment_of, one_segment, entries_in, last}
@@ -49,9 +49,9 @@ use Rattle.uncut.specs.Theorems.{Spans, ReachBlack, SpansUnique, ReachBounded}
 use Rattle.uncut.proofs.Reaching.{own, reach_passes, passes_reached}
 
 -- ---- a span, and the extent that is answered for it
-spanned : (black : ℤ → Type 0) (s : Span) → Proper s → ((i : ℤ) → In s i ↔ black i) → Spans black (answered s)
-spanned black none p h = λ i b. (h i).1 b
-spanned black (columns first last) p h = (p, λ i. ((h i).1, (h i).0))
+answer_spans : (black : ℤ → Type 0) (s : Span) → Proper s → ((i : ℤ) → In s i ↔ black i) → Spans black (answered s)
+answer_spans black none p h = λ i b. (h i).1 b
+answer_spans black (columns first last) p h = (p, λ i. ((h i).1, (h i).0))
 
 -- a path of one segment is black where the segment is
 pub one_black : (cs : List Pt) (path : List Pt) (g : Seg) (X : Pt) → segments path ≡ g ∷ [] → Black cs g X ↔ BlackPath cs path X
@@ -76,19 +76,23 @@ module _ {σ : Setting} {t : Table} {n : ℕ} (h : Holds t n σ) {p : List ℤ} 
       let one : (i : ℤ) → Black (pen σ) g (centre i (pos j)) ↔ black i = λ i. one_black (pen σ) (path_points p) g (centre i (pos j)) (one_segment q.entries) in
       let iff = extent_black (pen σ) (pos (Dx σ)) (pos (Dy σ)) (pen_is_pen σ h.taken) g in
       subst (Spans black) (sym pen_extent)
-      (spanned black (extent (pen σ) g (pos j)) (extent_proper (pen σ) g (pos j)) (λ i. Iff.trans (iff i (pos j)) (one i)))
+      (answer_spans black (extent (pen σ) g (pos j)) (extent_proper (pen σ) g (pos j)) (λ i. Iff.trans (iff i (pos j)) (one i)))
 
 pub reach_black : ReachBlack
 reach_black σ t n h p j z = spans h (reach_passes z)
 
 pub spans_unique : SpansUnique
-spans_unique black extent·.Nothing extent·.Nothing p q = refl
-spans_unique black extent·.Nothing (extent·.Columns c d) p q = absurd (p c ((q.1 c).1 (le_refl c, q.0)))
-spans_unique black (extent·.Columns a b) extent·.Nothing p q = absurd (q a ((p.1 a).1 (le_refl a, p.0)))
-spans_unique black (extent·.Columns a b) (extent·.Columns c d) p q =
+spans_unique black None None p q = refl
+spans_unique black None (Some f) p q = absurd (p f.first ((q.1 f.first).1 (le_refl f.first, q.0)))
+spans_unique black (Some e) None p q = absurd (q e.first ((p.1 e.first).1 (le_refl e.first, p.0)))
+spans_unique black (Some e) (Some f) p q =
+    let a = e.first in
+    let b = e.last in
+    let c = f.first in
+    let d = f.last in
     let in_second : (i : ℤ) → a ≼ i → i ≼ b → (c ≼ i) × (i ≼ d) = λ i l r. (q.1 i).0 ((p.1 i).1 (l, r)) in
     let in_first : (i : ℤ) → c ≼ i → i ≼ d → (a ≼ i) × (i ≼ b) = λ i l r. (p.1 i).0 ((q.1 i).1 (l, r)) in
-    ap₂ extent·.Columns (le_antisymm a c (in_first c (le_refl c) q.0).0 (in_second a (le_refl a) p.0).0)
+    ap₂ spanned (le_antisymm a c (in_first c (le_refl c) q.0).0 (in_second a (le_refl a) p.0).0)
     (le_antisymm b d (in_second b p.0 (le_refl b)).1 (in_first d q.0 (le_refl d)).1)
 
 -- ---- how far it can reach
@@ -102,15 +106,15 @@ in_range_lem : (z : ℤ) → in_range z ≡ true → (neg_ℤ (pos 262144) ≼ z
 in_range_lem z e = (abs_iff z 262144).0 (range_abs z e)
 
 -- an extent that has columns is no refusal's
-abbrev HasColumns : Extent → Type 0
-HasColumns extent·.Nothing = ⊥
-HasColumns (extent·.Columns first last) = Unit
+abbrev HasColumns : Option Extent → Type 0
+HasColumns None = ⊥
+HasColumns (Some e) = Unit
 
-told_passed : (v : Verdict) (e : Extent) (first last : ℤ) → (reached_by v e).extent ≡ extent·.Columns first last → v ≡ Passed
+told_passed : (v : Verdict) (e : Option Extent) (first last : ℤ) → (reached_by v e).extent ≡ spanned first last → v ≡ Passed
 told_passed Passed e first last q = refl
 told_passed (Refused n place) e first last q = absurd (subst HasColumns (sym q) tt)
 
-told_zero : (t : Table) (n : ℕ) (p : List ℤ) (j : ℕ) (first last : ℤ) → (reached_in t n p j).extent ≡ extent·.Columns first last → (reached_in t n p j).answer.refusal ≡ 0
+told_zero : (t : Table) (n : ℕ) (p : List ℤ) (j : ℕ) (first last : ℤ) → (reached_in t n p j).extent ≡ spanned first last → (reached_in t n p j).answer.refusal ≡ 0
 unfolding reached_in
 told_zero t n p j first last e = ap (λ (v : Verdict). (reached_by v (own t n p j)).answer.refusal) (told_passed (reach_verdict t n p j) (own t n p j) first last e)
 

@@ -16,8 +16,8 @@ use Rattle.aperture.specs.declared.Table.{Table}
 use Rattle.aperture.specs.Table.{held_corners, place_of}
 use Rattle.stroke.specs.Sweep.{Seg, path_points, segments}
 use Rattle.stroke.specs.Extent.{extent}
+use Rattle.std.specs.Prelude.{Option, None}
 use Rattle.extent.specs.declared.Extent.{Extent}
-use Rattle.extent.specs.declared.Extent.TheVariants as extent·
 use Rattle.extent.specs.Answer.{answered}
 use Rattle.cuts.specs.Cuts.{extent_in}
 use Rattle.cuts.proofs.Raster.{Near, near_extent}
@@ -38,16 +38,16 @@ use Rattle.uncut.specs.Theorems.{ReachIsStart}
 
 module _ (t : Table) (n : ℕ) (p : List ℤ) (j : ℕ) where
   -- the extent of its segment
-  abbrev pub own : Extent
+  abbrev pub own : Option Extent
   own = first_extent (held_corners t n) (segments (path_points p)) j
 
   -- a check refuses
-  pub reach_refused : {v : Verdict} {m place : ℕ} {r : Reached} → reach_verdict t n p j ≡ v → v ≡ Refused m place → r ≡ record { answer = answer_of v; extent = extent·.Nothing } → r ≡ reached_in t n p j
+  pub reach_refused : {v : Verdict} {m place : ℕ} {r : Reached} → reach_verdict t n p j ≡ v → v ≡ Refused m place → r ≡ record { answer = answer_of v; extent = None } → r ≡ reached_in t n p j
   unfolding reached_in
-  reach_refused e f g = g ∙ ap (λ (v : Verdict). record { answer = answer_of v; extent = extent·.Nothing }) f ∙ sym (ap (λ (v : Verdict). reached_by v own) (e ∙ f))
+  reach_refused e f g = g ∙ ap (λ (v : Verdict). record { answer = answer_of v; extent = None }) f ∙ sym (ap (λ (v : Verdict). reached_by v own) (e ∙ f))
 
   -- none does
-  pub reach_done : {a : Answer} {e : Extent} → reach_verdict t n p j ≡ Passed → a ≡ done 0 → e ≡ own → record { answer = a; extent = e } ≡ reached_in t n p j
+  pub reach_done : {a : Answer} {e : Option Extent} → reach_verdict t n p j ≡ Passed → a ≡ done 0 → e ≡ own → record { answer = a; extent = e } ≡ reached_in t n p j
   unfolding reached_in
   reach_done f g h = rw (g, h) (sym (ap (λ (v : Verdict). reached_by v own) f))
 
@@ -62,7 +62,7 @@ found_first cs {p} {j} d past h = go (segments (path_points p)) (drawable_near d
     go (g ∷ l) n h = sym (near_extent cs g j (n g (head refl)))
 
 -- ---- it is asked as a start is
-same_answer : (v : Verdict) (e : Extent) (f : Engine) → (reached_by v e).answer ≡ (started_by v f).answer
+same_answer : (v : Verdict) (e : Option Extent) (f : Engine) → (reached_by v e).answer ≡ (started_by v f).answer
 same_answer Passed e f = refl
 same_answer (Refused n place) e f = refl
 

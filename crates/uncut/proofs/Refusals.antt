@@ -13,8 +13,8 @@ use Rattle.limits.specs.Sizes.{raster_max}
 use Rattle.limits.specs.Exactly.{◌when◌else◌, done, BadRaster, BadRow, BadCoordinate, NoRoom}
 use Rattle.aperture.specs.declared.Table.{Table}
 use Rattle.aperture.specs.Refusals.{NoPen}
+use Rattle.std.specs.Prelude.{Option, None}
 use Rattle.extent.specs.declared.Extent.{Extent}
-use Rattle.extent.specs.declared.Extent.TheVariants as extent·
 use Rattle.checks.specs.declared.Answer.{Answer}
 use Rattle.checks.specs.Refuses.{Refuses}
 use Rattle.engine.proofs.Theorems.{start_refuses}
@@ -69,11 +69,11 @@ module _ (Coordinate : Type 0) (j : ℕ) where
   table = reworded same (reworded same without_raster)
 
 -- ---- what is answered beside the number
-uncounted : (v : Verdict) (e : Extent) → (reached_by v e).answer.count ≡ 0
+uncounted : (v : Verdict) (e : Option Extent) → (reached_by v e).answer.count ≡ 0
 uncounted Passed e = refl
 uncounted (Refused n place) e = refl
 
-untold : (v : Verdict) (e : Extent) → ¬ ((reached_by v e).answer.refusal ≡ 0) → (reached_by v e).extent ≡ extent·.Nothing
+untold : (v : Verdict) (e : Option Extent) → ¬ ((reached_by v e).answer.refusal ≡ 0) → (reached_by v e).extent ≡ None
 untold Passed e h = absurd (h refl)
 untold (Refused n place) e h = refl
 
@@ -82,7 +82,7 @@ module _ (t : Table) (n : ℕ) (p : List ℤ) (j : ℕ) where
   unfolding reached_in
   no_count = uncounted (reach_verdict t n p j) (own t n p j)
 
-  no_extent : ¬ ((reached_in t n p j).answer.refusal ≡ 0) → (reached_in t n p j).extent ≡ extent·.Nothing
+  no_extent : ¬ ((reached_in t n p j).answer.refusal ≡ 0) → (reached_in t n p j).extent ≡ None
   unfolding reached_in
   no_extent = untold (reach_verdict t n p j) (own t n p j)
 

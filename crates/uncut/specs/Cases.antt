@@ -1,5 +1,5 @@
 -- Cases that compute: the bounds of `ReachBounded` (Theorems) are reached, with the widest pen there is.
-use Rattle.std.specs.Prelude.{◌≡◌, refl, [], ◌∷◌, map, ℤ, pos, neg_ℤ}
+use Rattle.std.specs.Prelude.{◌≡◌, refl, Option, [], ◌∷◌, map, ℤ, pos, neg_ℤ}
 use Rattle.limits.specs.Sizes.{in_range}
 use Rattle.setting.specs.declared.Setting.{Setting}
 use Rattle.setting.specs.Setting.{taken, Dx, Dy}
@@ -17,7 +17,7 @@ use Rattle.stroke.specs.Sides.{furthest, sides}
 use Rattle.stroke.specs.Extent.{narrowed, extent}
 use Rattle.checks.specs.Checks.{coordinate_from}
 use Rattle.extent.specs.declared.Extent.{Extent}
-use Rattle.extent.specs.declared.Extent.TheVariants as extent·
+use Rattle.extent.specs.Answer.{spanned}
 use Rattle.uncut.specs.Uncut.{reached_in}
 
 -- w = 512, which is 32 pixels, in a table of one aperture
@@ -28,12 +28,12 @@ abbrev pub table : Table
 table = (defined empty 10 widest).table
 
 -- a dot at the height of row 0, in that row
-abbrev pub dot_at : ℤ → Extent
+abbrev pub dot_at : ℤ → Option Extent
 dot_at x = (reached_in table 10 (x ∷ pos 0 ∷ []) 0).extent
 
 -- at the left end of the range, at the origin, where half of it lies left of zero, and at the right end
 pub dots_reach : map dot_at (neg_ℤ (pos 262144) ∷ pos 0 ∷ pos 262144 ∷ [])
-    ≡ extent·.Columns (neg_ℤ (pos 16399)) (neg_ℤ (pos 16368)) ∷ extent·.Columns (neg_ℤ (pos 15)) (pos 16) ∷ extent·.Columns (pos 16369) (pos 16400) ∷ []
+    ≡ spanned (neg_ℤ (pos 16399)) (neg_ℤ (pos 16368)) ∷ spanned (neg_ℤ (pos 15)) (pos 16) ∷ spanned (pos 16369) (pos 16400) ∷ []
 unfolding taken Dx Dy checked norm lower tried bisect near_root amount retained corners quarter up_and_back once_each pen points chain edges furthest sides kept in_range narrowed extent
     coordinate_from path_points defined looked reached_in
 dots_reach = refl

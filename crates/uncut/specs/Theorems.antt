@@ -1,5 +1,5 @@
 -- What is proved of an uncut extent. Each claim is a type; proofs/Theorems.antt proves it.
-use Rattle.std.specs.Prelude.{ℕ, ◌+◌, ◌<◌, ◌≡◌, ◌⊎◌, ◌↔◌, List, [], ◌∷◌, length, ℤ, pos, neg_ℤ, ◌+ℤ◌, ◌*ℤ◌}
+use Rattle.std.specs.Prelude.{ℕ, ◌+◌, ◌<◌, ◌≡◌, ◌⊎◌, ◌↔◌, Option, Some, None, List, [], ◌∷◌, length, ℤ, pos, neg_ℤ, ◌+ℤ◌, ◌*ℤ◌}
 use Rattle.integers.specs.Orders.{◌≼◌}
 use Rattle.limits.specs.Exactly.{◌when◌else◌, done, FirstBad, BadCoordinate}
 use Rattle.setting.specs.declared.Setting.{Setting}
@@ -12,10 +12,8 @@ use Rattle.stroke.specs.Sweep.{path_points, centre}
 use Rattle.stroke.specs.Black.{BlackPath}
 use Rattle.stroke.specs.Runs.{Run}
 use Rattle.extent.specs.declared.Extent.{Extent}
-use Rattle.extent.specs.declared.Extent.TheVariants as extent·
-use Rattle.extent.specs.Answer.{answered}
+use Rattle.extent.specs.Answer.{answered, spanned}
 use Rattle.cuts.specs.declared.cut.Cut.{Cut}
-use Rattle.cuts.specs.declared.cut.Cut.TheVariants as cut·
 use Rattle.cuts.specs.Cuts.{cut_to}
 use Rattle.checks.specs.Checks.{call_verdict}
 use Rattle.checks.specs.Answer.{given}
@@ -42,16 +40,16 @@ pub record UncutRefuses (t : Table) (n : ℕ) (path : List ℤ) (j : ℕ) : Type
   pub nowhere : ¬ ((reached_in t n path j).answer.refusal ≡ 3) → (reached_in t n path j).answer.place ≡ 0
   -- no run is counted, and a refusal tells of no column
   pub count : (reached_in t n path j).answer.count ≡ 0
-  pub none : ¬ ((reached_in t n path j).answer.refusal ≡ 0) → (reached_in t n path j).extent ≡ extent·.Nothing
+  pub none : ¬ ((reached_in t n path j).answer.refusal ≡ 0) → (reached_in t n path j).extent ≡ None
 
 abbrev pub ReachRefuses : Type 0
 ReachRefuses = (t : Table) (n : ℕ) (path : List ℤ) (j : ℕ) → UncutRefuses t n path j
 
 -- ---- what is answered, over pixels
 -- "its first and last black column .. or as none": exactly the columns from the first to the last have a property, and there is one; or none has it
-abbrev pub Spans : (ℤ → Type 0) → Extent → Type 0
-Spans black extent·.Nothing = (i : ℤ) → ¬ black i
-Spans black (extent·.Columns first last) = (first ≼ last) × ((i : ℤ) → black i ↔ ((first ≼ i) × (i ≼ last)))
+abbrev pub Spans : (ℤ → Type 0) → Option Extent → Type 0
+Spans black None = (i : ℤ) → ¬ black i
+Spans black (Some e) = (e.first ≼ e.last) × ((i : ℤ) → black i ↔ ((e.first ≼ i) × (i ≼ e.last)))
 
 -- black by existence, for a table made by the calls
 abbrev pub ReachBlack : Type 0
@@ -61,12 +59,12 @@ ReachBlack =
 
 -- and no other extent is so
 abbrev pub SpansUnique : Type 1
-SpansUnique = (black : ℤ → Type 0) (e f : Extent) → Spans black e → Spans black f → e ≡ f
+SpansUnique = (black : ℤ → Type 0) (e f : Option Extent) → Spans black e → Spans black f → e ≡ f
 
 -- "uncut": a host that has columns from -16,399 to 16,400 has all there are. (262,144 sixteenths are 16,384 pixels, and half of the widest pen is 16; on the left a column is lost, since left sides are dropped)
 abbrev pub ReachBounded : Type 0
 ReachBounded =
-    (σ : Setting) (t : Table) (n : ℕ) → Holds t n σ → (path : List ℤ) (j : ℕ) (first last : ℤ) → (reached_in t n path j).extent ≡ extent·.Columns first last →
+    (σ : Setting) (t : Table) (n : ℕ) → Holds t n σ → (path : List ℤ) (j : ℕ) (first last : ℤ) → (reached_in t n path j).extent ≡ spanned first last →
     (neg_ℤ (pos 16399) ≼ first) × (last ≼ pos 16400)
 
 -- ---- films side by side
@@ -76,9 +74,9 @@ moved_right d [] = []
 moved_right d (x ∷ []) = x ∷ []
 moved_right d (x ∷ y ∷ l) = (x +ℤ pos 16 *ℤ d) ∷ y ∷ moved_right d l
 
-abbrev pub further : ℤ → Extent → Extent
-further d extent·.Nothing = extent·.Nothing
-further d (extent·.Columns first last) = extent·.Columns (first +ℤ d) (last +ℤ d)
+abbrev pub further : ℤ → Option Extent → Option Extent
+further d None = None
+further d (Some e) = spanned (e.first +ℤ d) (e.last +ℤ d)
 
 -- "Film stitching": what lies beyond one film is what another film has that counts its columns from elsewhere, by whatever table of the same setting
 abbrev pub ReachMoved : Type 0
@@ -89,9 +87,9 @@ ReachMoved =
 
 -- ---- beside the row answer and the engine
 -- the one run of a cut
-abbrev pub run_of : Cut → List Run
-run_of cut·.Nothing = []
-run_of (cut·.Columns left right) = record { left = left; right = right } ∷ []
+abbrev pub run_of : Option Cut → List Run
+run_of None = []
+run_of (Some c) = record { left = c.left; right = c.right } ∷ []
 
 -- "the row answer then cuts to the raster itself": for a path of one or two points its runs are this extent cut to the raster, whatever the table holds
 abbrev pub RowCutsExtent : Type 0

@@ -1,5 +1,5 @@
 -- Document 02, W8: "The extent of one segment in one row, its first and last black column, is to be given uncut, as signed columns, or as none."
-use Rattle.std.specs.Prelude.{ℕ, List, [], ◌∷◌, ℤ, pos}
+use Rattle.std.specs.Prelude.{ℕ, Option, None, List, [], ◌∷◌, ℤ, pos}
 use Rattle.limits.specs.Sizes.{raster_max}
 use Rattle.limits.specs.declared.Verdict.{Verdict}
 use Rattle.limits.specs.declared.Verdict.TheVariants.{Passed, Refused}
@@ -9,7 +9,6 @@ use Rattle.aperture.specs.Table.{held_corners}
 use Rattle.stroke.specs.Sweep.{Seg, path_points, segments}
 use Rattle.stroke.specs.Extent.{extent}
 use Rattle.extent.specs.declared.Extent.{Extent}
-use Rattle.extent.specs.declared.Extent.TheVariants as extent·
 use Rattle.extent.specs.Answer.{answered}
 use Rattle.checks.specs.Answer.{done, answer_of}
 use Rattle.engine.specs.Engine.{start_verdict}
@@ -20,14 +19,14 @@ abbrev pub reach_verdict : Table → ℕ → List ℤ → ℕ → Verdict
 reach_verdict t n p j = start_verdict t n p raster_max raster_max j
 
 -- "The extent of one segment in one row": of the first of a list. (A path of one or two points has one.)
-abbrev pub first_extent : List Pt → List Seg → ℕ → Extent
-first_extent cs [] j = extent·.Nothing
+abbrev pub first_extent : List Pt → List Seg → ℕ → Option Extent
+first_extent cs [] j = None
 first_extent cs (g ∷ l) j = answered (extent cs g (pos j))
 
 -- where a check refuses there is no extent
-abbrev pub reached_by : Verdict → Extent → Reached
+abbrev pub reached_by : Verdict → Option Extent → Reached
 reached_by Passed e = record { answer = done 0; extent = e }
-reached_by (Refused n place) e = record { answer = answer_of (Refused n place); extent = extent·.Nothing }
+reached_by (Refused n place) e = record { answer = answer_of (Refused n place); extent = None }
 
 unfoldable pub reached_in : Table → ℕ → List ℤ → ℕ → Reached
 reached_in t n p j = reached_by (reach_verdict t n p j) (first_extent (held_corners t n) (segments (path_points p)) j)

@@ -5,11 +5,10 @@
 // answer cuts to its raster.
 #![tactic(auto)]
 
-ghost use Rattle.std.specs.Prelude.{◌≡◌, ◌<◌, length};
+ghost use Rattle.std.specs.Prelude.{◌≡◌, ◌<◌, None, length};
 ghost use Rattle.limits.specs.Sizes.{raster_max, Drawable};
 ghost use Rattle.pen.specs.Answer.{pen_corners};
 ghost use Rattle.stroke.specs.Sweep.{segments, path_points};
-ghost use Rattle.extent.specs.declared.Extent.TheVariants as extent·;
 ghost use Rattle.checks.specs.Answer.{answer_of};
 ghost use Rattle.uncut.specs.Uncut.{first_extent, reached_in};
 
@@ -23,20 +22,20 @@ use pen::Pen;
 #[derive(Drop)]
 pub struct Reached {
     pub answer: Answer,
-    pub extent: Extent,
+    pub extent: Option<Extent>,
 }
 
 fn refused(v: Verdict) -> Reached
-    ensures { result ≡ record { answer = answer_of v; extent = extent·.Nothing } }
+    ensures { result ≡ record { answer = answer_of v; extent = None } }
 {
     Reached {
         answer: checks::report(v),
-        extent: Extent::Nothing,
+        extent: None,
     }
 }
 
 // The extent of a path's first segment, which is its only one where it has one or two points.
-fn first_extent(pen: Pen, path: &[i32], row: u64) -> Extent
+fn first_extent(pen: Pen, path: &[i32], row: u64) -> Option<Extent>
     requires segment { 0 < length (segments (path_points path.now)) }
     requires drawable { Drawable path.now raster_max row }
     ensures { result ≡ first_extent (pen_corners pen) (segments (path_points path.now)) row }

@@ -4,6 +4,7 @@ use Rattle.plane.specs.Point.{corners}
 use Rattle.stroke.specs.Sweep.{path_points}
 use Rattle.bits.specs.Bits.{blackened}
 use Rattle.bits.proofs.Blackened.{blackened_packed}
+use Rattle.std.specs.Prelude.{Option}
 use Rattle.cuts.specs.declared.cut.Cut.{Cut}
 use Rattle.cuts.specs.Cuts.{cuts_of, in_cut, black_cut, wider}
 use Rattle.cuts.proofs.Raster.{cuts_long, cuts_below}
@@ -16,7 +17,7 @@ loop-k-init c =
     let a = c.args in
     record {
       within = omega arith;
-      all = c.count-n.ensures ∙ sym (cuts_long (corners a.count a.xs.now a.ys.now) (path_points a.path.now) a.columns a.row);
+      all = c.count-k-end.ensures ∙ sym (cuts_long (corners a.count a.xs.now a.ys.now) (path_points a.path.now) a.columns a.row);
       as_long = refl;
       laid = laid_none a.bytes.now;
       bounded = refl;
@@ -26,8 +27,8 @@ pub loop-k-preserved : goal.loop-k-preserved
 loop-k-preserved c =
     let i = c.loop-k in
     let e = c.cut_at-cut.ensures.cut in
-    let laid = c.lay_cut.ensures ∙ ap (λ (d : Cut). blackened (λ x. in_cut x d) i.bytes) e in
-    rw add-one (overlaid_step i.invariant c.loop-k-test.true c.lay_cut.auto.bytes laid (c.widen_cut-b.ensures ∙ ap (wider i.b) e))
+    let laid = c.lay_cut.ensures ∙ ap (λ (d : Option Cut). blackened (λ x. in_cut x d) i.bytes) e in
+    rw add-one (overlaid_step i.invariant c.loop-k-test.true c.lay_cut.auto.bytes laid (c.widen-b.ensures ∙ ap (wider i.b) e))
 
 pub returns-clause-laid : goal.returns-clause-laid
 returns-clause-laid c =

@@ -1,11 +1,7 @@
 -- The cuts of the segments passed are laid over the bytes and between the bounds, and those after them go on from there.
-use Rattle.std.proofs.Common.{◌-◌}
 use Rattle.cuts.specs.Cuts.{cuts_of}
 use Rattle.cuts.proofs.Passed.{Overlaid}
 use Rattle.cuts.proofs.over.lay_cuts.Given as goal
 
 abbrev pub invariant-loop-k : goal.invariant-loop-k
-invariant-loop-k l = Overlaid (cuts_of l.xs l.ys l.count l.path l.columns l.row) l.n l.fn.bytes l.bytes l.b l.k
-
-abbrev pub decreases-loop-k : goal.decreases-loop-k
-decreases-loop-k l = l.n - l.k
+invariant-loop-k l = Overlaid (cuts_of l.xs l.ys l.count l.path l.columns l.row) l.k-end l.fn.bytes l.bytes l.b l.k

@@ -1,10 +1,12 @@
 -- The numbers of the moved edge, step by step.
 use Rattle.std.proofs.Common.{◌≡◌, ◌∙◌, ap, ◌^◌, ℤ, pos, ◌+ℤ◌, ◌-ℤ◌, ◌*ℤ◌, to_z, w64}
+use Rattle.std.specs.Int.{int_max}
 use lib.Dec.{leb→le}
 use Rattle.integers.specs.Compare.{max_z}
 use Rattle.integers.proofs.Bound.{abs_le}
+use Rattle.integers.proofs.Greater.{greater_is}
 use Rattle.integers.proofs.Machine.{Is, known, num, mul, mul_fits, add, add_fits, sub, weaken, bound}
-use Rattle.integers.proofs.Words.{bits, ◌⊕◌, ◌⊖◌, ◌⊗◌, max_is, ap₃}
+use Rattle.integers.proofs.Words.{bits, ◌⊕◌, ◌⊖◌, ◌⊗◌, ap₃}
 use Rattle.plane.specs.Polygon.{Side}
 use Rattle.stroke.specs.Extent.{narrow}
 use Rattle.extent.specs.declared.side.Ends.{Ends}
@@ -53,16 +55,16 @@ module _ {g : Ends} (near : Near g) {X Y X' Y' : ℤ} (P : Corner X Y) (Q : Corn
   to_B = weaken (leb→le _ _ tt) (add (mul a u tt) (mul b v tt) tt)
 
   -- as much further out as B is, and with it the line
-  further : {r : ℤ} → r ≡ max_z (to_z w64 ((bits Y' ⊖ bits Y) ⊗ (bits g.bx ⊖ bits g.ax) ⊕ (bits X ⊖ bits X') ⊗ (bits g.by ⊖ bits g.ay))) (to_z w64 (bits (pos 0))) →
+  further : {r : ℤ} → r ≡ int_max (to_z w64 ((bits Y' ⊖ bits Y) ⊗ (bits g.bx ⊖ bits g.ax) ⊕ (bits X ⊖ bits X') ⊗ (bits g.by ⊖ bits g.ay))) (to_z w64 (bits (pos 0))) →
       Is w64 (max_z (out_to (g.bx -ℤ g.ax) (g.by -ℤ g.ay)) (pos 0)) (bits r) (2 ^ 29)
-  further e = max_is to_B (weaken (leb→le _ _ tt) (num (pos 0) tt)) e
+  further e = greater_is to_B (weaken (leb→le _ _ tt) (num (pos 0) tt)) e
 
 pub returns-clause-answer : goal.returns-clause-answer
 returns-clause-answer c =
     let r = c.requires in
     let s = c.args in
     let side : ℤ → ℤ → ℤ → Side = λ a b c. record { a = a; b = b; c = c } in
-    let line = (add (at_A r.near r.from r.to) (further r.near r.from r.to c.max-further.ensures) tt).reads
+    let line = (add (at_A r.near r.from r.to) (further r.near r.from r.to c.max-further.ensures.value) tt).reads
     ∙ moved_at (s.qy -ℤ s.py) (s.px -ℤ s.qx) s.px s.py s.g.ax s.g.ay s.g.bx s.g.by in
     c.narrow.ensures.answer ∙ ap (λ (e : Side). narrow (pos 0) e (left s.s)) (ap₃ side (a r.near r.from r.to).reads (b r.near r.from r.to).reads line)
 
@@ -89,12 +91,12 @@ overflow_add-a c =
     add_fits (mul (a r.near r.from r.to) (u r.near r.from r.to) tt) (mul (b r.near r.from r.to) (v r.near r.from r.to) tt) tt
 
 pub overflow_add-at_a-4 : goal.overflow_add-at_a-4
-overflow_add-at_a-4 c = let r = c.requires in add_fits (at_A r.near r.from r.to) (further r.near r.from r.to c.max-further.ensures) tt
+overflow_add-at_a-4 c = let r = c.requires in add_fits (at_A r.near r.from r.to) (further r.near r.from r.to c.max-further.ensures.value) tt
 
 pub narrow-requires-clause-side : goal.narrow-requires-clause-side
 narrow-requires-clause-side c =
     let r = c.requires in
     record {
-      num_small = abs_le (leb→le _ _ tt) (bound (add (at_A r.near r.from r.to) (further r.near r.from r.to c.max-further.ensures) tt));
+      num_small = abs_le (leb→le _ _ tt) (bound (add (at_A r.near r.from r.to) (further r.near r.from r.to c.max-further.ensures.value) tt));
       by_small = abs_le (leb→le _ _ tt) (bound (a r.near r.from r.to));
     }

@@ -1,7 +1,7 @@
 -- One edge more in each turn (Going).
 use Rattle.std.proofs.Common.{◌∙◌, sym, ap₂, rules, arith, ◌-◌, slice_index_or, pos, w8, FitsSigned}
 use Rattle.integers.proofs.Machine.{bound}
-use Rattle.integers.proofs.Words.{coordinate}
+use Rattle.integers.proofs.Words.{widened}
 use Rattle.plane.specs.Point.{Pt, pt}
 use Rattle.plane.specs.Polygon.{edge}
 use Rattle.stroke.specs.Sides.{moved}
@@ -20,21 +20,9 @@ pub loop-i-init : goal.loop-i-init
 loop-i-init c =
     let s : FitsSigned w8 (slice_index_or c.args.xs.now 0 (pos 0)) = search rules in
     let t : FitsSigned w8 (slice_index_or c.args.ys.now 0 (pos 0)) = search rules in
-    let x = coordinate s (c.wide-qx.ensures.same, c.wide-qx.ensures.small) in
-    let y = coordinate t (c.wide-qy.ensures.same, c.wide-qy.ensures.small) in
+    let x = widened s c.from-qx.ensures in
+    let y = widened t c.from-qy.ensures in
     going c.requires.held c.requires.steady (record { x_small = bound x; y_small = bound y }) x.reads y.reads
-
-pub bounds-xs-i : goal.bounds-xs-i
-bounds-xs-i c = let v = c.loop-i.invariant in omega (arith, v.held.in_xs, v.within)
-
-pub bounds-ys-i : goal.bounds-ys-i
-bounds-ys-i c = let v = c.loop-i.invariant in omega (arith, v.held.in_ys, v.within)
-
-pub edge-r-requires-clause-steady : goal.edge-r-requires-clause-steady
-edge-r-requires-clause-steady c = c.loop-i.invariant.steady
-
-pub edge-r-requires-clause-to : goal.edge-r-requires-clause-to
-edge-r-requires-clause-to c = c.loop-i.invariant.corner
 
 pub loop-i-preserved : goal.loop-i-preserved
 loop-i-preserved c =
@@ -42,14 +30,11 @@ loop-i-preserved c =
     let v = c.loop-i.invariant in
     let s : FitsSigned w8 (slice_index_or c.args.xs.now (i - 1) (pos 0)) = search rules in
     let t : FitsSigned w8 (slice_index_or c.args.ys.now (i - 1) (pos 0)) = search rules in
-    let x = coordinate s (c.wide-px.ensures.same, c.wide-px.ensures.small) in
-    let y = coordinate t (c.wide-py.ensures.same, c.wide-py.ensures.small) in
+    let x = widened s c.from-px.ensures in
+    let y = widened t c.from-py.ensures in
     let narrowed_by : Pt → Pt → Left = λ P Q. narrow (pos 0) (moved (ends c.args.g) (edge P Q)) (left c.loop-i.r) in
     let e = ap₂ narrowed_by (ap₂ pt x.reads y.reads) (ap₂ pt v.x v.y) in
     going_on v c.loop-i-test.true c.edge-r.ensures.steady (record { x_small = bound x; y_small = bound y }) x.reads y.reads (c.edge-r.ensures.answer ∙ e)
 
 pub returns-clause-answer : goal.returns-clause-answer
 returns-clause-answer c = gone c.loop-i.invariant (omega arith)
-
-pub returns-clause-steady : goal.returns-clause-steady
-returns-clause-steady c = c.loop-i.invariant.steady

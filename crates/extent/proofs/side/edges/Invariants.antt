@@ -6,6 +6,3 @@ use Rattle.extent.proofs.side.edges.Given as goal
 
 abbrev pub invariant-loop-i : goal.invariant-loop-i
 invariant-loop-i l = Going l.n l.xs l.ys (pos 0) (ends l.g) l.initial.r l.r l.qx l.qy l.i
-
-abbrev pub decreases-loop-i : goal.decreases-loop-i
-decreases-loop-i l = l.i

@@ -3,9 +3,10 @@ use Rattle.std.proofs.Common.{◌≡◌, ◌∙◌, sym, ap, ap₂, rules, arith
 use lib.Dec.{leb→le}
 use Rattle.integers.specs.Compare.{max_z}
 use Rattle.integers.proofs.Bound.{abs_pos}
+use Rattle.integers.proofs.Greater.{greater_is, lesser_is}
 use Rattle.integers.proofs.Signs.{neg_neg}
 use Rattle.integers.proofs.Machine.{Is, known, var, weaken, mul, mul_fits, sub, sub_fits, along, bound}
-use Rattle.integers.proofs.Words.{bits, ◌⊖◌, ◌⊗◌, coordinate, max_is, min_is, opposite}
+use Rattle.integers.proofs.Words.{bits, ◌⊖◌, ◌⊗◌, widened, opposite}
 use Rattle.plane.specs.Point.{corners}
 use Rattle.plane.specs.Polygon.{dot}
 use Rattle.plane.proofs.Read.{place}
@@ -40,20 +41,20 @@ loop-i-init c =
 pub overflow_mul-t : goal.overflow_mul-t
 overflow_mul-t c =
     let s : FitsSigned w8 (slice_index_or c.args.xs.now (c.loop-i.i - 1) (pos 0)) = search rules in
-    mul_fits (up c.requires.way) (coordinate s (c.wide-x.ensures.same, c.wide-x.ensures.small)) tt
+    mul_fits (up c.requires.way) (widened s c.from.ensures) tt
 
 pub overflow_mul-t-in-loop-i : goal.overflow_mul-t-in-loop-i
 overflow_mul-t-in-loop-i c =
     let s : FitsSigned w8 (slice_index_or c.args.ys.now (c.loop-i.i - 1) (pos 0)) = search rules in
-    mul_fits (across c.requires.way) (coordinate s (c.wide-y.ensures.same, c.wide-y.ensures.small)) tt
+    mul_fits (across c.requires.way) (widened s c.from-in-loop-i.ensures) tt
 
 pub overflow_sub-t : goal.overflow_sub-t
 overflow_sub-t c =
     let w = c.requires.way in
     let s : FitsSigned w8 (slice_index_or c.args.xs.now (c.loop-i.i - 1) (pos 0)) = search rules in
     let t : FitsSigned w8 (slice_index_or c.args.ys.now (c.loop-i.i - 1) (pos 0)) = search rules in
-    let x = coordinate s (c.wide-x.ensures.same, c.wide-x.ensures.small) in
-    let y = coordinate t (c.wide-y.ensures.same, c.wide-y.ensures.small) in
+    let x = widened s c.from.ensures in
+    let y = widened t c.from-in-loop-i.ensures in
     sub_fits (mul (up w) x tt) (mul (across w) y tt) tt
 
 pub loop-i-preserved : goal.loop-i-preserved
@@ -63,8 +64,8 @@ loop-i-preserved c =
     let i = c.loop-i.i in
     let s : FitsSigned w8 (slice_index_or c.args.xs.now (i - 1) (pos 0)) = search rules in
     let t : FitsSigned w8 (slice_index_or c.args.ys.now (i - 1) (pos 0)) = search rules in
-    let x = coordinate s (c.wide-x.ensures.same, c.wide-x.ensures.small) in
-    let y = coordinate t (c.wide-y.ensures.same, c.wide-y.ensures.small) in
+    let x = widened s c.from.ensures in
+    let y = widened t c.from-in-loop-i.ensures in
     let a = to_z w64 (bits c.args.u) in
     let b = to_z w64 (bits c.args.v) in
     let cs = corners c.args.n c.args.xs.now c.args.ys.now in
@@ -73,8 +74,8 @@ loop-i-preserved c =
     let o = out c.requires.way x y in
     let most = along inv.right (var c.loop-i.auto.most-fits inv.most_small) in
     let least = along inv.left (var c.loop-i.auto.least-fits inv.least_small) in
-    let most' = max_is (along (to_right a b P.x P.y) o) most c.max-most.ensures in
-    let least' = min_is (along (to_left a b P.x P.y) o) least c.min-least.ensures in
+    let most' = greater_is (along (to_right a b P.x P.y) o) most c.max-most.ensures.value in
+    let least' = lesser_is (along (to_left a b P.x P.y) o) least c.min-least.ensures.value in
     record {
       within = omega (arith, inv.within);
       right = most'.reads ∙ sym (more b (neg_ℤ a));

@@ -13,6 +13,3 @@ invariant-loop-i l = record {
   most_small : Abs l.most (2 ^ 28);
   least_small : Abs l.least (2 ^ 28);
 }
-
-abbrev pub decreases-loop-i : goal.decreases-loop-i
-decreases-loop-i l = l.i

@@ -19,21 +19,21 @@ pub write_single-requires : goal.write_single-requires
 write_single-requires c =
     let a = c.args in
     let few = c.requires.size.few in
-    let i = once_in (corners a.count a.xs.now a.ys.now) (path_points a.path.now) a.columns a.row c.requires.size _ _ (sym c.touching.ensures ∙ c.in-One.is) in
+    let i = once_in (corners a.count a.xs.now a.ys.now) (path_points a.path.now) a.columns a.row c.requires.size _ (sym c.touching.ensures ∙ c.in-One.is) in
     (omega (arith, i, few), omega (arith, i, few))
 
 pub write_two-requires-clause-first : goal.write_two-requires-clause-first
 write_two-requires-clause-first c =
     let a = c.args in
     let few = c.requires.size.few in
-    let b = twice_in (corners a.count a.xs.now a.ys.now) (path_points a.path.now) a.columns a.row c.requires.size _ _ _ _ (sym c.touching.ensures ∙ c.in-Two.is) in
+    let b = twice_in (corners a.count a.xs.now a.ys.now) (path_points a.path.now) a.columns a.row c.requires.size _ _ (sym c.touching.ensures ∙ c.in-Two.is) in
     (omega (arith, b.0, few), omega (arith, b.0, few))
 
 pub write_two-requires-clause-second : goal.write_two-requires-clause-second
 write_two-requires-clause-second c =
     let a = c.args in
     let few = c.requires.size.few in
-    let b = twice_in (corners a.count a.xs.now a.ys.now) (path_points a.path.now) a.columns a.row c.requires.size _ _ _ _ (sym c.touching.ensures ∙ c.in-Two.is) in
+    let b = twice_in (corners a.count a.xs.now a.ys.now) (path_points a.path.now) a.columns a.row c.requires.size _ _ (sym c.touching.ensures ∙ c.in-Two.is) in
     (omega (arith, b.1, few), omega (arith, b.1, few))
 
 pub returns-in-Untouched : goal.returns-in-Untouched
@@ -46,10 +46,10 @@ pub returns-in-One : goal.returns-in-One
 returns-in-One c =
     let a = c.args in
     c.write_single.ensures
-    ∙ ap (offered a.runs.now) (sym (runs_touched (corners a.count a.xs.now a.ys.now) a.path.now a.columns a.row c.requires _ _ (sym c.touching.ensures ∙ c.in-One.is)))
+    ∙ ap (offered a.runs.now) (sym (runs_touched (corners a.count a.xs.now a.ys.now) a.path.now a.columns a.row c.requires _ (sym c.touching.ensures ∙ c.in-One.is)))
 
 pub returns-in-Two : goal.returns-in-Two
 returns-in-Two c =
     let a = c.args in
     c.write_two.ensures
-    ∙ ap (offered a.runs.now) (sym (runs_twice (corners a.count a.xs.now a.ys.now) a.path.now a.columns a.row c.requires _ _ _ _ (sym c.touching.ensures ∙ c.in-Two.is)))
+    ∙ ap (offered a.runs.now) (sym (runs_twice (corners a.count a.xs.now a.ys.now) a.path.now a.columns a.row c.requires _ _ (sym c.touching.ensures ∙ c.in-Two.is)))
