@@ -14,7 +14,7 @@ use setting::Checked;
 pub fn number(settings: &[u64], k: usize) -> u64
     ensures { result ≡ get_or settings.now k 0 }
 {
-    if k < settings.len() { settings[k] } else { 0 }
+    settings.get(k).copied().unwrap_or(0)
 }
 
 // How many settings there are. Numbers left over are one more, with 0 for those that are missing.
@@ -50,14 +50,11 @@ fn setting_check(settings: &[u64], i: usize) -> Verdict
 pub fn settings_check(settings: &[u64]) -> Verdict
     ensures { result ≡ settings_verdict settings.now }
 {
-    let n = count_of(settings);
-    let mut i = 0;
-    while i < n {
+    for i in 0..count_of(settings) {
         let of_setting = setting_check(settings, i);
         if let Verdict::Refused(number, place) = of_setting {
             return Verdict::Refused(number, place);
         }
-        i += 1;
     }
     Verdict::Passed
 }
@@ -67,10 +64,8 @@ pub fn settings_check(settings: &[u64]) -> Verdict
 pub fn table(settings: &[u64]) -> Table
     ensures { result ≡ (table_of settings.now).table }
 {
-    let n = count_of(settings);
     let mut t = aperture::none();
-    let mut i = 0;
-    while i < n {
+    for i in 0..count_of(settings) {
         let at = 3 * i;
         let changed = aperture::define(
             t,
@@ -83,7 +78,6 @@ pub fn table(settings: &[u64]) -> Table
             return aperture::none();
         }
         t = changed.table;
-        i += 1;
     }
     t
 }
@@ -102,8 +96,5 @@ pub fn held_count(settings: &[u64]) -> u64
 pub fn is_held(held: u64, number: u64) -> bool
     ensures { result ≡ is_one_of held number }
 {
-    if number < limits::APERTURE_MIN {
-        return false;
-    }
-    number - limits::APERTURE_MIN < held
+    limits::APERTURE_MIN <= number && number - limits::APERTURE_MIN < held
 }

@@ -5,17 +5,17 @@ use Rattle.setting_list.proofs.Held.{reached_none, reached_more, reached_bad, re
 use Rattle.setting_list.proofs.settings_check.Goals as goal
 
 pub loop-i-init : goal.loop-i-init
-loop-i-init c = (c.count_of-n.ensures, reached_none _)
+loop-i-init c = reached_none _
 
 pub returns-in-Refused : goal.returns-in-Refused
 returns-in-Refused c =
-    let below : c.loop-i.i < setting_count c.args.settings.now = omega (arith, c.loop-i.invariant.0, c.loop-i-test.true) in
-    reached_bad c.args.settings.now c.loop-i.i c.loop-i.invariant.1 below (sym c.in-Refused.ensures)
+    let below : c.loop-i.i < setting_count c.args.settings.now = omega (arith, c.count_of-i-end.ensures, c.loop-i-test.true) in
+    reached_bad c.args.settings.now c.loop-i.i c.loop-i.invariant below (sym c.in-Refused.ensures)
 
 pub loop-i-preserved : goal.loop-i-preserved
 loop-i-preserved c =
-    let below : c.loop-i.i < setting_count c.args.settings.now = omega (arith, c.loop-i.invariant.0, c.loop-i-test.true) in
-    (c.loop-i.invariant.0, reached_more c.args.settings.now c.loop-i.i c.loop-i.invariant.1 below (sym c.in_default.ensures))
+    let below : c.loop-i.i < setting_count c.args.settings.now = omega (arith, c.count_of-i-end.ensures, c.loop-i-test.true) in
+    reached_more c.args.settings.now c.loop-i.i c.loop-i.invariant below (sym c.in_default.ensures)
 
 pub returns : goal.returns
-returns c = reached_all c.args.settings.now c.loop-i.i c.loop-i.invariant.1 (omega (arith, c.loop-i.invariant.0, c.loop-i-test.false))
+returns c = reached_all c.args.settings.now c.loop-i.i c.loop-i.invariant (omega (arith, c.count_of-i-end.ensures, c.loop-i-test.false))
