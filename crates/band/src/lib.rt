@@ -27,16 +27,10 @@ pub struct Shape {
 }
 
 // The highest of n rows from `first` on, if the raster has all of them; else a row that it has not.
-fn top_row(rows: u64, first: u64, n: u64) -> u64
+pub fn top_row(rows: u64, first: u64, n: u64) -> u64
     ensures { result ≡ top_row rows first n }
 {
-    if n == 0 {
-        return rows;
-    }
-    if rows < first {
-        return rows;
-    }
-    if rows - first < n {
+    if n == 0 || rows < first || rows - first < n {
         return rows;
     }
     first + (n - 1)
@@ -46,10 +40,7 @@ fn top_row(rows: u64, first: u64, n: u64) -> u64
 fn room_for(columns: usize, stride: usize, length: usize) -> usize
     ensures { result ≡ room_for columns stride length }
 {
-    if stride == 0 {
-        return 0;
-    }
-    if stride < bits::length_of(columns) {
+    if stride == 0 || stride < bits::length_of(columns) {
         return 0;
     }
     length / stride
@@ -88,7 +79,7 @@ pub fn lay(
     let shape = Shape {
         columns: columns as u16,
         top: top as u16,
-        stride: stride,
+        stride,
     };
     drawn::lay_drawn(bytes, s, path, shape, first as u16);
     checks::done(n as usize)

@@ -24,9 +24,7 @@ pub fn lay_path<'a>(
     requires part { Part s from to }
     ensures { bytes.new ≡ blackened (shaped (path_black (corners count xs.now ys.now) path.now) s from to) bytes.old }
 {
-    let n = segments::count(path);
-    let mut k = 0;
-    while k < n {
+    for k in 0..segments::count(path) {
         let a = 2 * k;
         let b = segments::end_of(path, k);
         lay_segment(
@@ -42,6 +40,5 @@ pub fn lay_path<'a>(
             from,
             to,
         );
-        k += 1;
     }
 }

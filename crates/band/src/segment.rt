@@ -12,7 +12,6 @@ ghost use Rattle.band.specs.Rows.{shaped, flank_black, segment_black, PenOf, Fit
 use crate::Shape;
 use crate::past::rows_past;
 use flanks::{Flanks, count_to};
-use integers::{max, min, wide};
 
 // The columns past the left flank, up to the right one, in a row of the band.
 fn lay_row(bytes: &mut [u8], s: Shape, row: u16, left: i64, right: i64)
@@ -43,11 +42,9 @@ fn lay_rows<'a>(
     ensures { bytes.new ≡ blackened (shaped (flank_black count xs.now ys.now begun s.columns from) s from to) bytes.old }
 {
     let mut f = begun;
-    let mut row = from;
-    while row < to {
+    for row in from..to {
         f = flanks::rise(f, xs, ys, count, row);
         lay_row(bytes, s, row, f.left.edge.column, f.right.edge.column);
-        row += 1;
     }
 }
 
@@ -56,10 +53,7 @@ fn depth(ys: &[i8]) -> i64
     ensures same { result ≡ pos 8 *ℤ get_or ys.now 0 (pos 0) }
     ensures small { Abs result 1024 }
 {
-    if 0 < ys.len() {
-        return 8 * wide(ys[0]);
-    }
-    0
+    ys.first().map_or(0, |y| 8 * i64::from(*y))
 }
 
 // The segment from A to B in the rows from `from` on and before `to`. Those that its sweep does not
@@ -85,8 +79,8 @@ pub fn lay_segment<'a>(
         ≡ blackened (shaped (segment_black (corners count xs.now ys.now) (seg ax ay bx by)) s from to) bytes.old }
 {
     let deep = depth(ys);
-    let low = rows_past(min(ay as i64, by as i64) + deep, from, to);
-    let high = rows_past(max(ay as i64, by as i64) - deep, from, to);
+    let low = rows_past(i64::from(ay.min(by)) + deep, from, to);
+    let high = rows_past(i64::from(ay.max(by)) - deep, from, to);
     if low < high {
         let begun = flanks::begin(xs, ys, count, ax, ay, bx, by);
         lay_rows(bytes, xs, ys, count, begun, s, low, high);

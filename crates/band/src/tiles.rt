@@ -1,7 +1,7 @@
 // The rows of a band that a path reaches, a tile of them at a time: a long path then comes back to
 // the same bytes while they are at hand. Any height of a tile is right.
-ghost use Rattle.std.specs.Prelude.{◌≡◌, ◌*◌, ◌≤◌, ◌<◌, ◌^◌, length};
-ghost use Rattle.limits.specs.Sizes.{entries_max};
+ghost use Rattle.std.specs.Prelude.{◌≡◌, ◌≤◌, length};
+ghost use Rattle.limits.specs.Sizes.{entries_max, raster_max};
 ghost use Rattle.plane.specs.Point.{corners};
 ghost use Rattle.bits.specs.Bits.{blackened};
 ghost use Rattle.reach.specs.Reach.{InRange};
@@ -12,25 +12,13 @@ use crate::path::lay_path;
 
 const TILE: u16 = 256;
 
-// How far it is from one height to another.
-fn apart(a: i32, b: i32) -> u64
-    ensures { result ≤ 2 ^ 32 }
-{
-    if a < b {
-        return (b as i64 - a as i64) as u64;
-    }
-    (a as i64 - b as i64) as u64
-}
-
 // How far the path goes up and down in all, in sixteenths of a pixel.
 fn climb(path: &[i32]) -> u64
     requires { length path.now ≤ entries_max }
 {
     let mut sum = 0;
-    let mut i = 3;
-    while i < path.len() {
-        sum += apart(path[i - 2], path[i]);
-        i += 2;
+    for i in (3..path.len()).step_by(2) {
+        sum += u64::from(path[i - 2].abs_diff(path[i]));
     }
     sum
 }
@@ -39,26 +27,14 @@ fn climb(path: &[i32]) -> u64
 // tile; else all rows in one.
 fn height(path: &[i32], rows: u16) -> u16
     requires { length path.now ≤ entries_max }
-    ensures { 1 ≤ result }
+    ensures some { 1 ≤ result }
+    ensures low { result ≤ raster_max }
 {
-    let looks = (path.len() / 2) as u64 * (rows / TILE) as u64;
+    let looks = (path.len() / 2) as u64 * u64::from(rows / TILE);
     if looks < climb(path) / 16 {
         return TILE;
     }
     limits::RASTER_MAX as u16
-}
-
-// Where the tile ends that begins at row `from`.
-fn end_of_tile(from: u16, to: u16, height: u16) -> u16
-    requires before { from < to }
-    requires some { 1 ≤ height }
-    ensures further { from < result }
-    ensures within { result ≤ to }
-{
-    if height < to - from {
-        return from + height;
-    }
-    to
 }
 
 pub fn lay_tiles<'a>(
@@ -79,10 +55,8 @@ pub fn lay_tiles<'a>(
     ensures { bytes.new ≡ blackened (shaped (path_black (corners count xs.now ys.now) path.now) s from to) bytes.old }
 {
     let height = height(path, to - from);
-    let mut t = from;
-    while t < to {
-        let end = end_of_tile(t, to, height);
+    for t in (from..to).step_by(height as usize) {
+        let end = t + height.min(to - t);
         lay_path(bytes, xs, ys, count, path, s, t, end);
-        t = end;
     }
 }

@@ -21,9 +21,9 @@ use Rattle.extent.specs.Answer.{seg}
 use Rattle.segments.specs.Ends.{EndsAt}
 use Rattle.segments.proofs.Ends.{start_in}
 use Rattle.band.specs.declared.Shape.{Shape}
-use Rattle.band.specs.Rows.{shaped, segment_black, path_black}
+use Rattle.band.specs.Rows.{shaped, segment_black}
 use Rattle.band.proofs.Layers.{laid_none, laid_both, any_next}
-use Rattle.band.proofs.path.lay_path.Invariants.{some_black, Done}
+use Rattle.band.proofs.path.lay_path.Invariants.{some_black}
 use Rattle.band.proofs.path.lay_path.Goals as goal
 use Rattle.band.proofs.path.lay_path.Goals.{After-end_of-b, At-loop-k, In-loop-k}
 
@@ -32,26 +32,15 @@ abbrev past : Seg
 past = seg (pos 0) (pos 0) (pos 0) (pos 0)
 
 -- one segment more
-done_step : {cs : List Pt} {l : List Seg} {s : Shape} {from to n : ℕ} {bytes₀ bytes bytes' : List ℕ} {k : ℕ} → Done cs l s from to n bytes₀ bytes k → suc k ≤ n →
-    length bytes' ≡ length bytes → bytes' ≡ blackened (shaped (segment_black cs (get_or l k past)) s from to) bytes → Done cs l s from to n bytes₀ bytes' (suc k)
-done_step {cs} {l} {s} {from} {to} {bytes₀ = bytes₀} {k = k} d h e f = record {
-  within = h;
-  all = d.all;
-  as_long = e ∙ d.as_long;
-  laid = f ∙ laid_both (some_black cs l k) (segment_black cs (get_or l k past)) (some_black cs l (suc k)) s from to bytes₀
-      (λ j x. any_next (λ g. segment_black cs g j x) l k past (omega (arith, d.all))) d.laid;
-}
-
--- after the last all are
-done_end : {cs : List Pt} (path : List ℤ) {s : Shape} {from to n : ℕ} {bytes₀ bytes : List ℕ} {k : ℕ} → Done cs (segments (path_points path)) s from to n bytes₀ bytes k → n ≤ k →
-    bytes ≡ blackened (shaped (path_black cs path) s from to) bytes₀
-done_end {cs} path {s} {from} {to} {bytes₀ = bytes₀} {k = k} d h =
-    let l = segments (path_points path) in
-    d.laid ∙ ap (λ (m : List Seg). blackened (shaped (λ j x. any (λ g. segment_black cs g j x) m) s from to) bytes₀) (take_all k l (omega (arith, d.all)))
+one_more : (cs : List Pt) (l : List Seg) (s : Shape) (from to : ℕ) (bytes₀ : List ℕ) {bytes bytes' : List ℕ} (k : ℕ) → k < length l →
+    bytes ≡ blackened (shaped (some_black cs l k) s from to) bytes₀ → bytes' ≡ blackened (shaped (segment_black cs (get_or l k past)) s from to) bytes →
+    bytes' ≡ blackened (shaped (some_black cs l (suc k)) s from to) bytes₀
+one_more cs l s from to bytes₀ k h d f =
+    f ∙ laid_both (some_black cs l k) (segment_black cs (get_or l k past)) (some_black cs l (suc k)) s from to bytes₀ (λ j x. any_next (λ g. segment_black cs g j x) l k past h) d
 
 -- k is one of the path's segments
 one_of : (c : In-loop-k) → c.loop-k.k < length (segments (path_points c.args.path.now))
-one_of c = omega (arith, c.loop-k.invariant.all, c.loop-k-test.true)
+one_of c = omega (arith, c.count-k-end.ensures, c.loop-k-test.true)
 
 start_of_lem : (c : In-loop-k) → 2 * c.loop-k.k + 1 < length c.args.path.now
 start_of_lem c = start_in c.args.path.now c.loop-k.k (one_of c)
@@ -69,12 +58,7 @@ same_segment a b c d = cc
 pub loop-k-init : goal.loop-k-init
 loop-k-init c =
     let a = c.args in
-    record {
-      within = omega arith;
-      all = c.count-n.ensures;
-      as_long = refl;
-      laid = laid_none (some_black (corners a.count a.xs.now a.ys.now) (segments (path_points a.path.now)) 0) a.s a.from a.to a.bytes.now (λ j x _ _. refl);
-    }
+    laid_none (some_black (corners a.count a.xs.now a.ys.now) (segments (path_points a.path.now)) 0) a.s a.from a.to a.bytes.now (λ j x _ _. refl)
 
 pub overflow_mul-a : goal.overflow_mul-a
 overflow_mul-a c = omega (arith, start_of_lem c)
@@ -100,8 +84,13 @@ loop-k-preserved c =
     let cs = corners a.count a.xs.now a.ys.now in
     let h = in_path (goal.at.loop-k-preserved c).After-end_of-b in
     let g = same_segment (read _ h.0) (read _ h.1) (read _ h.2) (read _ h.3) in
-    rw add-one (done_step c.loop-k.invariant c.loop-k-test.true c.lay_segment.auto.bytes
+    rw add-one (one_more cs (segments (path_points a.path.now)) a.s a.from a.to a.bytes.now c.loop-k.k (one_of (goal.at.loop-k-preserved c).In-loop-k) c.loop-k.invariant
     (c.lay_segment.ensures ∙ ap (λ (g : Seg). blackened (shaped (segment_black cs g) a.s a.from a.to) c.loop-k.bytes) (g ∙ sym ((ends (goal.at.loop-k-preserved c).After-end_of-b).segment past))))
 
 pub returns : goal.returns
-returns c = done_end c.args.path.now c.loop-k.invariant c.loop-k-test.false
+returns c =
+    let a = c.args in
+    let cs = corners a.count a.xs.now a.ys.now in
+    let l = segments (path_points a.path.now) in
+    let all : length l ≤ c.loop-k.k = omega (arith, c.count-k-end.ensures, c.loop-k-test.false) in
+    c.loop-k.invariant ∙ ap (λ (m : List Seg). blackened (shaped (λ j x. any (λ g. segment_black cs g j x) m) a.s a.from a.to) a.bytes.now) (take_all c.loop-k.k l all)

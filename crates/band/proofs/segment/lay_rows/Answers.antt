@@ -1,8 +1,8 @@
 -- The rows so far are laid over the bytes, and the flanks have come to the last of them.
 use Prim.Native.Nat.{◌+◌, ◌-◌, ◌*◌}
-use native.Mathlib.Nat.{le_refl}
+use native.Mathlib.Nat.{le_refl, le_of_lt}
 use native.Mathlib.Omega.{arith}
-use mathlib.Core.Path.{◌≡◌, refl, sym, ap, ap₂, ◌∙◌}
+use mathlib.Core.Path.{◌≡◌, sym, ap, ap₂, ◌∙◌}
 use lib.IntN.{ℤ}
 use borrow.Author.Rules.{rules}
 use mir.Syntax.{w64}
@@ -18,15 +18,12 @@ pub loop-row-init : goal.loop-row-init
 loop-row-init c =
     let a = c.args in
     record {
-      after = omega arith;
-      before = c.requires.part.ordered;
-      as_long = refl;
       carried = sym (ap (risen_by a.count a.xs.now a.ys.now a.begun a.from) (omega arith) ∙ risen_none a.count a.xs.now a.ys.now a.begun a.from);
       laid = rows_at_first a.count a.xs.now a.ys.now a.begun a.from a.s a.bytes.now;
     }
 
 pub lay_row-requires-clause-fits : goal.lay_row-requires-clause-fits
-lay_row-requires-clause-fits c = (part_of c.loop-row.row _ c.requires.part c.loop-row.invariant.after c.loop-row.invariant.before (le_refl _)).placed
+lay_row-requires-clause-fits c = (part_of c.loop-row.row c.args.to c.requires.part c.loop-row.auto.row (le_of_lt c.loop-row-test.true) (le_refl _)).placed
 
 pub loop-row-preserved : goal.loop-row-preserved
 loop-row-preserved c =
@@ -35,14 +32,11 @@ loop-row-preserved c =
     let l : to_z w64 (of_z w64 c.rise-f.result.left.edge.column) ≡ c.rise-f.result.left.edge.column = search rules in
     let r : to_z w64 (of_z w64 c.rise-f.result.right.edge.column) ≡ c.rise-f.result.right.edge.column = search rules in
     let place = 8 * (a.s.stride * (a.s.top - row)) in
-    let stands = c.rise-f.ensures ∙ risen_next a.count a.xs.now a.ys.now a.begun a.from c.loop-row.f row c.loop-row.invariant.after c.loop-row.invariant.carried in
+    let stands = c.rise-f.ensures ∙ risen_next a.count a.xs.now a.ys.now a.begun a.from c.loop-row.f row c.loop-row.auto.row c.loop-row.invariant.carried in
     record {
-      after = omega (arith, c.loop-row.invariant.after);
-      before = omega (arith, c.loop-row-test.true);
-      as_long = c.lay_row.auto.bytes ∙ c.loop-row.invariant.as_long;
-      carried = stands ∙ ap (risen_by a.count a.xs.now a.ys.now a.begun a.from) (omega (arith, c.loop-row.invariant.after));
+      carried = stands ∙ ap (risen_by a.count a.xs.now a.ys.now a.begun a.from) (omega (arith, c.loop-row.auto.row));
       laid = c.lay_row.ensures
           ∙ ap₂ (λ (x y : ℤ). blackened (span (place + count_to a.s.columns x) (place + count_to a.s.columns y)) c.loop-row.bytes) l r
-          ∙ one_row_more a.count a.xs.now a.ys.now a.begun a.from a.s c.requires.fits c.rise-f.result row (omega (arith, c.requires.part.inside, c.loop-row-test.true)) c.loop-row.invariant.after stands
+          ∙ one_row_more a.count a.xs.now a.ys.now a.begun a.from a.s c.requires.fits c.rise-f.result row (omega (arith, c.requires.part.inside, c.loop-row-test.true)) c.loop-row.auto.row stands
           c.loop-row.bytes a.bytes.now c.loop-row.invariant.laid;
     }
