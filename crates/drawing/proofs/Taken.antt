@@ -1,45 +1,39 @@
 -- The strokes of a drawing, one more at a time: the first that is refused is the answer.
 use Prim.Native.Nat.{ℕ, suc, ◌+◌, ◌-◌, ◌≤◌}
 use mathlib.Core.Path.{◌≡◌, refl, sym}
-use mathlib.Core.Bool.{true, false, ◌&&◌}
+use mathlib.Core.Bool.{false, ◌&&◌}
 use mathlib.Core.List.{List, []}
 use native.Mathlib.Omega.{arith}
 use lib.Dec.{leb}
 use lib.ListN.{length, get_or, take, drop}
 use lib.IntN.{ℤ}
-use borrow.Author.Tests.{le-leb, leb-true}
+use borrow.Author.Tests.{le-leb}
 use Rattle.limits.specs.declared.Verdict.TheVariants.{Passed, Refused}
 use Rattle.drawing.specs.declared.StrokeVerdict.TheVariants.{AllTaken, Stroke}
-use Rattle.drawing.specs.Strokes.{Drawing, path_of, stroke_verdict, first_from, Spans}
+use Rattle.drawing.specs.Strokes.{Drawing, path_of, stroke_verdict, first_from}
 use Rattle.drawing.proofs.Rows.{drop_of_take}
 
 -- ---- the entries of a stroke
--- the two starts are in order within the list
-path_here : (starts : List ℕ) (entries : List ℤ) (k : ℕ) → get_or starts k 0 ≤ get_or starts (k + 1) 0 → get_or starts (k + 1) 0 ≤ length entries →
+in_order : (starts : List ℕ) (entries : List ℤ) (k : ℕ) → get_or starts k 0 ≤ get_or starts (k + 1) 0 → get_or starts (k + 1) 0 ≤ length entries →
     take (get_or starts (k + 1) 0 - get_or starts k 0) (drop (get_or starts k 0) entries) ≡ path_of starts entries k
 unfolding path_of
-path_here starts entries k h l =
+in_order starts entries k h l =
     let a = get_or starts k 0 in
     let e = get_or starts (k + 1) 0 in
     rw (path_of, le-leb a e h, le-leb e (length entries) l) (sym (drop_of_take entries a e))
 
--- they are not
-path_nowhere : (starts : List ℕ) (entries : List ℤ) (k : ℕ) → (leb (get_or starts k 0) (get_or starts (k + 1) 0) && leb (get_or starts (k + 1) 0) (length entries)) ≡ false →
+out_of_order : (starts : List ℕ) (entries : List ℤ) (k : ℕ) → (leb (get_or starts k 0) (get_or starts (k + 1) 0) && leb (get_or starts (k + 1) 0) (length entries)) ≡ false →
     [] ≡ path_of starts entries k
 unfolding path_of
-path_nowhere starts entries k e = rw (path_of, e)
+out_of_order starts entries k e = rw (path_of, e)
 
+-- of its start and the next one: they are in order within the list, or not
 module _ (starts : List ℕ) (entries : List ℤ) (k first end : ℕ) (e : first ≡ get_or starts k 0) (f : end ≡ get_or starts (k + 1) 0) where
-  pub spans : first ≤ end → leb end (length entries) ≡ true → Spans starts entries k first end
-  spans h l =
-      let m = leb-true end (length entries) l in record {
-        ordered = h;
-        within = m;
-        path = rw (e, f) (path_here starts entries k (omega (arith, e, f)) (omega (arith, f)));
-      }
+  pub path_here : first ≤ end → end ≤ length entries → take (end - first) (drop first entries) ≡ path_of starts entries k
+  path_here h l = rw (e, f) (in_order starts entries k (omega (arith, h, e, f)) (omega (arith, l, f)))
 
-  pub no_span : (leb first end && leb end (length entries)) ≡ false → Spans starts entries k 0 0
-  no_span h = record { ordered = omega arith; within = omega arith; path = path_nowhere starts entries k (rw (e, f) at h) }
+  pub path_nowhere : (leb first end && leb end (length entries)) ≡ false → [] ≡ path_of starts entries k
+  path_nowhere h = out_of_order starts entries k (rw (e, f) at h)
 
 -- ---- one stroke after the other
 module _ (d : Drawing) (columns rows k : ℕ) where

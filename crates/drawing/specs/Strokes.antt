@@ -1,5 +1,5 @@
 -- The strokes of a drawing, and what is checked of each before anything is drawn.
-use Rattle.std.specs.Prelude.{ℕ, zero, suc, ◌+◌, ◌-◌, ◌≤◌, ◌≡◌, true, false, ◌&&◌, List, [], leb, length, get_or, take, drop, ℤ}
+use Rattle.std.specs.Prelude.{ℕ, zero, suc, ◌+◌, true, false, ◌&&◌, List, [], leb, length, get_or, ℤ}
 use Rattle.std.proofs.Math.Seq.{slice}
 use Rattle.limits.specs.declared.Verdict.{Verdict}
 use Rattle.limits.specs.declared.Verdict.TheVariants.{Passed, Refused}
@@ -57,9 +57,3 @@ strokes_verdict (Stroke k number place) = Refused number place
 -- the settings, the strokes, and then the raster by itself: 4 is told of a drawing without strokes too
 abbrev pub film_verdict : Drawing → ℕ → ℕ → Verdict
 film_verdict d columns rows = settings_verdict d.settings then strokes_verdict (first_refused d columns rows) then raster_verdict columns rows
-
--- the entries from `first` on and before `end` are the path of stroke k
-pub record Spans (starts : List ℕ) (entries : List ℤ) (k first end : ℕ) : Type 0 where
-  pub ordered : first ≤ end
-  pub within : end ≤ length entries
-  pub path : take (end - first) (drop first entries) ≡ path_of starts entries k

@@ -13,7 +13,7 @@ ghost use Rattle.drawing.specs.Film.{band_verdict};
 use drawing::StrokeVerdict;
 use limits::Verdict;
 use setting_list::{held_count, settings_check};
-use strokes::{span_of, stroke_check};
+use strokes::{path_of, stroke_check};
 
 pub mod strokes;
 
@@ -30,16 +30,12 @@ pub fn first_refused(
         ≡ first_refused (drawing_of settings.now apertures.now starts.now entries.now) columns rows }
 {
     let held = held_count(settings);
-    let mut k = 0;
-    while k < apertures.len() {
-        let s = span_of(starts, entries, k);
-        let first = s.first;
-        let end = s.end;
-        let of_stroke = stroke_check(held, apertures[k], &entries[first..end], columns, rows);
+    for (k, aperture) in apertures.iter().enumerate() {
+        let path = path_of(starts, entries, k);
+        let of_stroke = stroke_check(held, *aperture, path, columns, rows);
         if let Verdict::Refused(number, place) = of_stroke {
             return StrokeVerdict::Stroke(k, number, place);
         }
-        k += 1;
     }
     StrokeVerdict::AllTaken
 }
@@ -71,16 +67,7 @@ fn film_check(
 pub fn rows_check(rows: u64, first: u64, n: u64) -> Verdict
     ensures { result ≡ row_verdict rows (top_row rows first n) }
 {
-    if n == 0 {
-        return Verdict::Refused(limits::BAD_ROW, 0);
-    }
-    if rows < first {
-        return Verdict::Refused(limits::BAD_ROW, 0);
-    }
-    if rows - first < n {
-        return Verdict::Refused(limits::BAD_ROW, 0);
-    }
-    Verdict::Passed
+    checks::row_check(rows, band::top_row(rows, first, n))
 }
 
 // The film, and then the rows that are asked for.

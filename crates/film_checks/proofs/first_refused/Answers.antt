@@ -27,19 +27,15 @@ pub loop-k-init : goal.loop-k-init
 loop-k-init c =
     let a = c.args in
     let n : length a.apertures.now - 0 ≡ length a.apertures.now = omega arith in
-    record {
-      held = c.held_count-held.ensures;
-      few = omega arith;
-      same = ap (first_from (drawing_of a.settings.now a.apertures.now a.starts.now a.entries.now) a.columns a.rows 0) n;
-    }
+    ap (first_from (drawing_of a.settings.now a.apertures.now a.starts.now a.entries.now) a.columns a.rows 0) n
 
 pub returns-in-Refused : goal.returns-in-Refused
 returns-in-Refused c =
     let a = c.args in
     let i = c.loop-k in
     let d = drawing_of a.settings.now a.apertures.now a.starts.now a.entries.now in
-    let v = verdict d a.columns a.rows i.k i.invariant.held c.span_of-s.ensures.path c.stroke_check-of_stroke.ensures in
-    sym (stroke_refused d a.columns a.rows i.k _ _ _ (sym v ∙ c.in-Refused.is)) ∙ here d a.columns a.rows i.k c.loop-k-test.true i.invariant.same
+    let v = verdict d a.columns a.rows i.k c.held_count-held.ensures c.path_of-path.ensures c.stroke_check-of_stroke.ensures in
+    sym (stroke_refused d a.columns a.rows i.k _ _ _ (sym v ∙ c.in-Refused.is)) ∙ here d a.columns a.rows i.k c.loop-k-test.true i.invariant
 
 pub loop-k-preserved : goal.loop-k-preserved
 loop-k-preserved c =
@@ -47,15 +43,10 @@ loop-k-preserved c =
     let i = c.loop-k in
     let d = drawing_of a.settings.now a.apertures.now a.starts.now a.entries.now in
     let n = length a.apertures.now in
-    let v = verdict d a.columns a.rows i.k i.invariant.held c.span_of-s.ensures.path c.stroke_check-of_stroke.ensures in
-    record {
-      held = i.invariant.held;
-      few = omega (arith, i.invariant.few, c.loop-k-test.true);
-      same =
-          ap (λ (i : ℕ). first_from d a.columns a.rows i (n - (c.loop-k.k + 1))) (add-one i.k)
-          ∙ sym (stroke_taken d a.columns a.rows i.k (n - (i.k + 1)) (sym v ∙ c.in_default.is))
-          ∙ here d a.columns a.rows i.k c.loop-k-test.true i.invariant.same;
-    }
+    let v = verdict d a.columns a.rows i.k c.held_count-held.ensures c.path_of-path.ensures c.stroke_check-of_stroke.ensures in
+    ap (λ (i : ℕ). first_from d a.columns a.rows i (n - (c.loop-k.k + 1))) (add-one i.k)
+    ∙ sym (stroke_taken d a.columns a.rows i.k (n - (i.k + 1)) (sym v ∙ c.in_default.is))
+    ∙ here d a.columns a.rows i.k c.loop-k-test.true i.invariant
 
 pub returns : goal.returns
 returns c =
@@ -63,4 +54,4 @@ returns c =
     let i = c.loop-k in
     let d = drawing_of a.settings.now a.apertures.now a.starts.now a.entries.now in
     let none : 0 ≡ length a.apertures.now - i.k = omega arith in
-    no_stroke_lem d a.columns a.rows i.k ∙ ap (first_from d a.columns a.rows i.k) none ∙ i.invariant.same
+    no_stroke_lem d a.columns a.rows i.k ∙ ap (first_from d a.columns a.rows i.k) none ∙ i.invariant
