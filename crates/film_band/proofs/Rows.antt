@@ -4,7 +4,7 @@ use native.Mathlib.Numerals.{add-one}
 use native.Mathlib.Nat.{zero-mul, suc-mul}
 use native.Mathlib.Omega.{arith}
 use mathlib.Core.Path.{◌≡◌, refl, sym, ap, ap₂, ◌∙◌}
-use mathlib.Core.List.{List, [], ◌∷◌, ◌++◌}
+use mathlib.Core.List.{List, ◌++◌}
 use lib.ListN.{length, get_or, replicate, replicate-append-replicate}
 use lib.Seq.{take_at, drop_at}
 use Rattle.bits.specs.Bits.{laid_over}
@@ -34,8 +34,3 @@ rows_over_lem row f width zero h = refl
 rows_over_lem row f width (suc n) h =
     ap₂ (λ (a b : List ℕ). laid_over a (row n) ++ rows_over row width n b) (take_at (f n) (top_first n f) width (h n)) (drop_at (f n) (top_first n f) width (h n))
     ∙ ap (λ (l : List ℕ). laid_over (f n) (row n) ++ l) (rows_over_lem row f width n h)
-
--- one zero more
-pub replicate_snoc : (n a : ℕ) → replicate n a ++ (a ∷ []) ≡ replicate (suc n) a
-replicate_snoc zero a = refl
-replicate_snoc (suc n) a = ap (λ (l : List ℕ). a ∷ l) (replicate_snoc n a)

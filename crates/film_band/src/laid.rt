@@ -1,23 +1,13 @@
 // A band of a film: its bytes are cleared, and the strokes laid over them one after the other.
-ghost use Rattle.std.specs.Prelude.{◌≡◌, ◌-◌, ◌*◌, ◌≤◌, ◌<◌, ◌^◌, length, replicate};
+ghost use Rattle.std.specs.Prelude.{◌≡◌, ◌-◌, ◌*◌, ◌≤◌, ◌<◌, ◌^◌, length};
 ghost use Rattle.band.specs.Band.{band_call};
 ghost use Rattle.setting_list.specs.Settings.{setting_at};
 ghost use Rattle.drawing.specs.Strokes.{drawing_of};
 ghost use Rattle.drawing.specs.Film.{band_of};
 ghost use Rattle.film_band.specs.Code.{Drawn};
 
-use film_checks::strokes::span_of;
+use film_checks::strokes::path_of;
 use setting_list::number;
-
-fn clear(b: &mut [u8])
-    ensures { b.new ≡ replicate (length b.old) 0 }
-{
-    let mut i = 0;
-    while i < b.len() {
-        b[i] = 0;
-        i += 1;
-    }
-}
 
 // Lays a stroke over a band, with the setting of its aperture.
 fn lay_stroke(
@@ -69,23 +59,11 @@ pub fn draw(
     ensures { bytes.new
         ≡ band_of (drawing_of settings.now apertures.now starts.now entries.now) columns rows first n }
 {
-    clear(bytes);
-    let mut k = 0;
-    while k < apertures.len() {
-        let s = span_of(starts, entries, k);
-        let from = s.first;
-        let end = s.end;
+    bytes.fill(0);
+    for (k, aperture) in apertures.iter().enumerate() {
+        let path = path_of(starts, entries, k);
         lay_stroke(
-            settings,
-            apertures[k],
-            &entries[from..end],
-            columns,
-            rows,
-            first,
-            n,
-            bytes,
-            width,
+            settings, *aperture, path, columns, rows, first, n, bytes, width,
         );
-        k += 1;
     }
 }

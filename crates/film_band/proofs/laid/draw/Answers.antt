@@ -1,5 +1,5 @@
 -- Each turn lays one stroke more over the band.
-use Rattle.std.proofs.Common.{◌≡◌, ◌∙◌, ap, ap₂, arith, List, ℕ, ◌-◌, ◌*◌, length, get_or, replicate, ℤ}
+use Rattle.std.proofs.Common.{◌≡◌, ◌∙◌, ap, ap₂, arith, rules, List, ℕ, ◌-◌, ◌*◌, length, get_or, replicate, ℤ}
 use Rattle.band.specs.Band.{band_call}
 use Rattle.bits.specs.Bits.{packed_length}
 use Rattle.setting_list.specs.Settings.{setting_at}
@@ -14,11 +14,7 @@ loop-k-init c =
     let a = c.args in
     let d = drawing_of a.settings.now a.apertures.now a.starts.now a.entries.now in
     let n : length a.bytes.now ≡ a.n * packed_length a.columns = c.requires.room ∙ ap (λ (w : ℕ). a.n * w) c.requires.drawn.wide in
-    record {
-      few = omega arith;
-      as_long = c.clear.auto.b;
-      laid = c.clear.ensures ∙ ap (λ (m : ℕ). replicate m 0) n ∙ band_none d a.columns a.rows a.first a.n;
-    }
+    c.fill.ensures.after (λ y e. search rules) ∙ ap (λ (m : ℕ). replicate m 0) n ∙ band_none d a.columns a.rows a.first a.n
 
 -- the aperture of stroke k is one of those that are held
 pub lay_stroke-requires-clause-low : goal.lay_stroke-requires-clause-low
@@ -41,12 +37,7 @@ loop-k-preserved c =
     let l = c.loop-k in
     let σ = setting_at a.settings.now (get_or a.apertures.now l.k 0 - 10) in
     let p = band_passes d a.columns a.rows a.first a.n c.requires.drawn.passed in
-    record {
-      few = omega (arith, l.invariant.few, c.loop-k-test.true);
-      as_long = c.lay_stroke.auto.bytes ∙ l.invariant.as_long;
-      laid =
-          c.lay_stroke.ensures
-          ∙ ap₂ (λ (p : List ℤ) (b : List ℕ). (band_call σ p a.columns a.rows a.first a.n a.width b).list) c.span_of-s.ensures.path l.invariant.laid
-          ∙ ap (λ (w : ℕ). (band_call σ (path_of a.starts.now a.entries.now l.k) a.columns a.rows a.first a.n w (band_up_to d a.columns a.rows a.first a.n l.k)).list) c.requires.drawn.wide
-          ∙ band_more d a.columns a.rows a.first a.n p l.k c.loop-k-test.true;
-    }
+    c.lay_stroke.ensures
+    ∙ ap₂ (λ (p : List ℤ) (b : List ℕ). (band_call σ p a.columns a.rows a.first a.n a.width b).list) c.path_of-path.ensures l.invariant
+    ∙ ap (λ (w : ℕ). (band_call σ (path_of a.starts.now a.entries.now l.k) a.columns a.rows a.first a.n w (band_up_to d a.columns a.rows a.first a.n l.k)).list) c.requires.drawn.wide
+    ∙ band_more d a.columns a.rows a.first a.n p l.k c.loop-k-test.true
