@@ -1,7 +1,7 @@
 // What a row call answers for a setting that is taken and a path of bytes.
 ghost use Rattle.std.specs.Prelude.{◌≡◌, ◌*◌, ◌≤◌, length, []};
-ghost use Rattle.limits.specs.Sizes.{entries_max};
 ghost use Rattle.limits.specs.declared.Verdict.TheVariants.{Passed};
+ghost use Rattle.limits.specs.Sizes.{entries_max};
 ghost use Rattle.wire.specs.Read.{entries_of};
 ghost use Rattle.setting.specs.Setting.{Taken};
 ghost use Rattle.outcome.specs.Fit.{Fit};
@@ -10,7 +10,7 @@ ghost use Rattle.plane.specs.Point.{corners};
 
 use crate::miss::misses;
 use checks::Answer;
-use limits::Verdict;
+use limits::{ENTRIES_MAX, Verdict};
 use setting::Setting;
 
 // How many entries a short path has at most, and how many bytes.
@@ -61,6 +61,23 @@ fn listed_runs<'a>(
     write(a, list, runs)
 }
 
+// The runs go through a list of N numbers.
+fn runs_in<'a, const N: usize>(
+    call: Call,
+    xs: &'a [i8],
+    ys: &'a [i8],
+    count: usize,
+    path: &[i32],
+    runs: &mut [u8],
+) -> u64
+    requires few { N ≤ entries_max }
+    requires room { entries_verdict call path.now ≡ Passed → length path.now ≤ N }
+    ensures { record { answer = result; bytes = runs.new } ≡ runs_with (corners count xs.now ys.now) call (entries_verdict call path.now) path.now runs.old }
+{
+    let mut list = [0u16; N];
+    listed_runs(call, xs, ys, count, path, &mut list, runs)
+}
+
 // A short path has a short list: to clear one for the longest would cost more than most rows do.
 fn entries_runs<'a>(
     call: Call,
@@ -73,11 +90,9 @@ fn entries_runs<'a>(
     ensures { record { answer = result; bytes = runs.new } ≡ runs_with (corners count xs.now ys.now) call (entries_verdict call path.now) path.now runs.old }
 {
     if path.len() <= SHORT {
-        let mut list: [u16; SHORT] = [0; SHORT];
-        return listed_runs(call, xs, ys, count, path, &mut list, runs);
+        return runs_in::<SHORT>(call, xs, ys, count, path, runs);
     }
-    let mut list: [u16; limits::ENTRIES_MAX] = [0; limits::ENTRIES_MAX];
-    listed_runs(call, xs, ys, count, path, &mut list, runs)
+    runs_in::<ENTRIES_MAX>(call, xs, ys, count, path, runs)
 }
 
 fn entries_packed<'a>(
@@ -156,37 +171,21 @@ fn of_entries(call: Call, path: &[i32], bytes: &mut [u8]) -> u64
     )
 }
 
-// The path's coordinates go into the given array.
-fn decoded(call: Call, path: &[u8], entries: &mut [i32], bytes: &mut [u8]) -> u64
+// The path's coordinates go into an array of N.
+fn decoded<const N: usize>(call: Call, path: &[u8], bytes: &mut [u8]) -> u64
     requires taken { Taken call.setting }
-    requires short { length path.now ≤ 4 * length entries.old }
+    requires few { N ≤ entries_max }
+    requires short { length path.now ≤ 4 * N }
     ensures { record { answer = result; bytes = bytes.new } ≡ entries_call call (entries_of path.now) bytes.old }
 {
-    wire::decode(path, entries);
+    let mut entries = [0i32; N];
+    wire::decode(path, &mut entries);
     let n = path.len() / 4;
     of_entries(call, &entries[..n], bytes)
 }
 
-// Most paths are short, and to clear an array for the longest would cost more than most rows do.
-fn short(call: Call, path: &[u8], bytes: &mut [u8]) -> u64
-    requires taken { Taken call.setting }
-    requires short { length path.now ≤ 256 }
-    ensures { record { answer = result; bytes = bytes.new } ≡ entries_call call (entries_of path.now) bytes.old }
-{
-    let mut entries: [i32; SHORT] = [0; SHORT];
-    decoded(call, path, &mut entries, bytes)
-}
-
-fn long(call: Call, path: &[u8], bytes: &mut [u8]) -> u64
-    requires taken { Taken call.setting }
-    requires short { length path.now ≤ 4 * entries_max }
-    ensures { record { answer = result; bytes = bytes.new } ≡ entries_call call (entries_of path.now) bytes.old }
-{
-    let mut entries: [i32; limits::ENTRIES_MAX] = [0; limits::ENTRIES_MAX];
-    decoded(call, path, &mut entries, bytes)
-}
-
-// The length of the bytes is checked before they are read.
+// The length of the bytes is checked before they are read. Most paths are short, and to clear an array
+// for the longest would cost more than most rows do.
 pub fn of_bytes(call: Call, path: &[u8], bytes: &mut [u8]) -> u64
     requires { Taken call.setting }
     ensures { record { answer = result; bytes = bytes.new } ≡ bytes_call call path.now bytes.old }
@@ -196,7 +195,7 @@ pub fn of_bytes(call: Call, path: &[u8], bytes: &mut [u8]) -> u64
         return outcome::refused(of_bytes);
     };
     if path.len() <= SHORT_BYTES {
-        return short(call, path, bytes);
+        return decoded::<SHORT>(call, path, bytes);
     }
-    long(call, path, bytes)
+    decoded::<ENTRIES_MAX>(call, path, bytes)
 }

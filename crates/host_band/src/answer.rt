@@ -4,7 +4,7 @@ ghost use Rattle.limits.specs.Sizes.{entries_max};
 ghost use Rattle.wire.specs.Read.{entries_of};
 ghost use Rattle.host_band.specs.Call.{entries_call, bytes_call};
 
-use limits::Verdict;
+use limits::{ENTRIES_MAX, Verdict};
 use setting::Checked;
 
 // How many entries a short path has at most, and how many bytes.
@@ -44,35 +44,21 @@ fn of_entries(call: Call, path: &[i32], bytes: &mut [u8]) -> u64
     outcome::code(a)
 }
 
-// The path's coordinates go into the given array.
-fn decoded(call: Call, path: &[u8], entries: &mut [i32], bytes: &mut [u8]) -> u64
-    requires { length path.now ≤ 4 * length entries.old }
+// The path's coordinates go into an array of N.
+fn decoded<const N: usize>(call: Call, path: &[u8], bytes: &mut [u8]) -> u64
+    requires few { N ≤ entries_max }
+    requires short { length path.now ≤ 4 * N }
     ensures { record { answer = result; bytes = bytes.new } ≡ entries_call call (entries_of path.now) bytes.old }
 {
-    wire::decode(path, entries);
+    let mut entries = [0i32; N];
+    wire::decode(path, &mut entries);
     let n = path.len() / 4;
     of_entries(call, &entries[..n], bytes)
 }
 
-// Most paths are short, and to clear an array for the longest would cost more than a small stroke.
-fn short(call: Call, path: &[u8], bytes: &mut [u8]) -> u64
-    requires { length path.now ≤ 256 }
-    ensures { record { answer = result; bytes = bytes.new } ≡ entries_call call (entries_of path.now) bytes.old }
-{
-    let mut entries: [i32; SHORT] = [0; SHORT];
-    decoded(call, path, &mut entries, bytes)
-}
-
-fn long(call: Call, path: &[u8], bytes: &mut [u8]) -> u64
-    requires { length path.now ≤ 4 * entries_max }
-    ensures { record { answer = result; bytes = bytes.new } ≡ entries_call call (entries_of path.now) bytes.old }
-{
-    let mut entries: [i32; limits::ENTRIES_MAX] = [0; limits::ENTRIES_MAX];
-    decoded(call, path, &mut entries, bytes)
-}
-
 // The setting and the length of the bytes come before the path is read. The band checks the setting
-// once more, but only after the length.
+// once more, but only after the length. Most paths are short, and to clear an array for the longest
+// would cost more than a small stroke.
 pub fn of_bytes(call: Call, path: &[u8], bytes: &mut [u8]) -> u64
     ensures { record { answer = result; bytes = bytes.new } ≡ bytes_call call path.now bytes.old }
 {
@@ -84,7 +70,7 @@ pub fn of_bytes(call: Call, path: &[u8], bytes: &mut [u8]) -> u64
         return outcome::refused(of_bytes);
     };
     if path.len() <= SHORT_BYTES {
-        return short(call, path, bytes);
+        return decoded::<SHORT>(call, path, bytes);
     }
-    long(call, path, bytes)
+    decoded::<ENTRIES_MAX>(call, path, bytes)
 }

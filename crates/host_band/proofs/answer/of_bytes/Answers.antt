@@ -43,7 +43,7 @@ returns-in_default-of_bytes c =
     length_next (setting q) a.path.now q.columns q.rows q.first q.n q.stride a.bytes.now (is_taken (goal.at.returns-in_default-of_bytes c).In-Taken) c.refused-in_default-of_bytes.ensures r.0 r.1
 
 pub returns-then-path-le-SHORT_BYTES : goal.returns-then-path-le-SHORT_BYTES
-returns-then-path-le-SHORT_BYTES c = c.short.ensures ∙ rest (goal.at.returns-then-path-le-SHORT_BYTES c).In-Passed
+returns-then-path-le-SHORT_BYTES c = c.decoded.ensures ∙ rest (goal.at.returns-then-path-le-SHORT_BYTES c).In-Passed
 
 pub returns : goal.returns
-returns c = c.long.ensures ∙ rest (goal.at.returns c).In-Passed
+returns c = c.decoded-2.ensures ∙ rest (goal.at.returns c).In-Passed
