@@ -60,8 +60,11 @@ later_later i r = let h : suc i + r.end ≡ i + (1 + r.end) = omega arith in ap 
     with_end : ℕ → Scanned
     with_end n = record { scanner = r.scanner; end = n }
 
-pub past : (s : Scanner) (l : List ℕ) (i : ℕ) → length l ≤ i → ◌≡◌ {A = Scanned} (record { scanner = s; end = i }) (scanned_from s l i)
-past s l i h = none_more s i ∙ sym (ap (later i) (ap (scanned s) (drop_of_length-le l {i = i} h) ∙ scanned_none s))
+pub past : (s : Scanner) (l : List ℕ) (i k : ℕ) → length l ≤ i → k ≡ i → ◌≡◌ {A = Scanned} (record { scanner = s; end = k }) (scanned_from s l i)
+past s l i k h e = ap (λ (n : ℕ). with_end n) e ∙ none_more s i ∙ sym (ap (later i) (ap (scanned s) (drop_of_length-le l {i = i} h) ∙ scanned_none s))
+  where
+    with_end : ℕ → Scanned
+    with_end n = record { scanner = s; end = n }
 
 module _ (s : Scanner) (l : List ℕ) (i : ℕ) (h : i < length l) {q : Scanner} (e : q ≡ stepped s (get_or l i 0)) where
   here : (t : Bool) → is_stop q.mode ≡ t → is_stop (stepped s (get_or l i 0)).mode ≡ t

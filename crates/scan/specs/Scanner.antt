@@ -1,15 +1,19 @@
 -- The scanner: what has been read, where, and the numbers of the two axes; one byte, a chunk, a whole file.
-use Rattle.std.specs.Prelude.{ℕ, ◌+◌, Bool, true, false, cond, List, [], ◌∷◌, leb, drop, ℤ, pos, neg_ℤ}
+use Rattle.std.specs.Prelude.{ℕ, ◌+◌, min, Bool, true, false, cond, List, [], ◌∷◌, leb, drop, ℤ, pos, neg_ℤ}
 use Rattle.std.proofs.Math.Option.{Option, none, some}
 use Rattle.scan.specs.declared.Command.{Command}
 use Rattle.scan.specs.declared.Command.TheVariants as command·
 use Rattle.scan.specs.declared.Gap.{Gap}
 use Rattle.scan.specs.declared.Gap.TheVariants as gap·
+use Rattle.scan.specs.declared.Axis.{Axis}
+use Rattle.scan.specs.declared.Axis.TheVariants.{X, Y}
+use Rattle.scan.specs.declared.Sign.{Sign}
+use Rattle.scan.specs.declared.Sign.TheVariants.{Plus, Minus}
 use Rattle.scan.specs.declared.Mode.{Mode}
 use Rattle.scan.specs.declared.Mode.TheVariants.{Bad, Outside, Whole, Number, Inside}
 use Rattle.scan.specs.declared.Scanner.{Scanner}
 use Rattle.scan.specs.declared.Scanned.{Scanned}
-use Rattle.scan.specs.Next.{next}
+use Rattle.scan.specs.Next.{same_axis, next}
 
 -- "An omitted axis (or both) keeps its last number, 0 at first."
 abbrev pub begun : Scanner
@@ -17,38 +21,37 @@ begun = record { mode = Outside gap·.First; at = 0; start = 0; x = pos 0; y = p
 
 -- one more byte; the count stays at the greatest number of its type
 abbrev pub counted : ℕ → ℕ
-counted at = cond (leb 18446744073709551615 at) at (at + 1)
+counted at = min (at + 1) 18446744073709551615
 
 -- "the byte place, from 0, of its start": a command starts with the byte that is read where none has been begun
 abbrev pub start_of : Mode → ℕ → ℕ → ℕ
 start_of Bad at start = start
 start_of (Outside g) at start = at
 start_of (Whole c) at start = at
-start_of (Number y minus n v) at start = start
+start_of (Number a sign n v) at start = start
 start_of (Inside p) at start = start
 
 -- a value with its sign; one of more than nine digits, which no scanner comes to, is 0
 abbrev pub nine : ℕ → ℕ
 nine v = cond (leb v 999999999) v 0
 
-abbrev pub signed : Bool → ℕ → ℤ
-signed true v = neg_ℤ (pos (nine v))
-signed false v = pos (nine v)
+abbrev pub signed : Sign → ℕ → ℤ
+signed Minus v = neg_ℤ (pos (nine v))
+signed Plus v = pos (nine v)
 
 -- the number of an axis: what has been read of it, or the last one
+abbrev pub number_of : Axis → Mode → ℤ → ℤ
+number_of a Bad last = last
+number_of a (Outside g) last = last
+number_of a (Whole c) last = last
+number_of a (Number axis sign n v) last = cond (same_axis axis a) (signed sign v) last
+number_of a (Inside p) last = last
+
 abbrev pub x_of : Mode → ℤ → ℤ
-x_of Bad last = last
-x_of (Outside g) last = last
-x_of (Whole c) last = last
-x_of (Number y minus n v) last = cond y last (signed minus v)
-x_of (Inside p) last = last
+x_of m last = number_of X m last
 
 abbrev pub y_of : Mode → ℤ → ℤ
-y_of Bad last = last
-y_of (Outside g) last = last
-y_of (Whole c) last = last
-y_of (Number y minus n v) last = cond y (signed minus v) last
-y_of (Inside p) last = last
+y_of m last = number_of Y m last
 
 unfoldable pub stepped : Scanner → ℕ → Scanner
 stepped s b =
@@ -60,7 +63,7 @@ abbrev pub is_stop : Mode → Bool
 is_stop Bad = true
 is_stop (Outside g) = false
 is_stop (Whole c) = true
-is_stop (Number y minus n v) = false
+is_stop (Number a sign n v) = false
 is_stop (Inside p) = false
 
 -- ---- a chunk: up to the first byte that ends a command or that none can have
@@ -109,7 +112,7 @@ abbrev pub heard_by : Mode → Scanner → Heard → Heard
 heard_by Bad s h = record { said = []; bad = some s.start }
 heard_by (Outside g) s h = h
 heard_by (Whole c) s h = heard_word (word_of c s.x s.y) s h
-heard_by (Number y minus n v) s h = h
+heard_by (Number a sign n v) s h = h
 heard_by (Inside p) s h = h
 
 -- whether the file may end here: M02 has been read
@@ -130,7 +133,7 @@ abbrev pub is_ended : Mode → Bool
 is_ended Bad = false
 is_ended (Outside g) = is_ended_gap g
 is_ended (Whole c) = is_ended_whole c
-is_ended (Number y minus n v) = false
+is_ended (Number a sign n v) = false
 is_ended (Inside p) = false
 
 unfoldable pub heard : Scanner → List ℕ → Heard

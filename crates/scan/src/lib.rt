@@ -3,7 +3,7 @@
 #![tactic(auto)]
 
 ghost use Rattle.std.specs.Prelude.{◌≡◌};
-ghost use Rattle.scan.specs.Scanner.{begun, x_of, y_of, start_of, counted, stepped, is_stop, is_ended, is_ended_gap, is_ended_whole, scanned_from};
+ghost use Rattle.scan.specs.Scanner.{begun, number_of, start_of, stepped, is_stop, is_ended, scanned_from};
 
 mod next;
 
@@ -26,8 +26,20 @@ pub enum Gap {
     Ended,
 }
 
-// Within a command, but for the digits of a number. A bool y: the axis is Y and not X. Header: so many
-// bytes of the two header lines have been read.
+#[derive(Clone, Copy, PartialEq, Eq)]
+pub enum Axis {
+    X,
+    Y,
+}
+
+#[derive(Clone, Copy)]
+pub enum Sign {
+    Plus,
+    Minus,
+}
+
+// Within a command, but for the digits of a number. Header: so many bytes of the two header lines have been
+// read.
 #[derive(Clone, Copy)]
 pub enum Part {
     Header(usize),
@@ -41,8 +53,8 @@ pub enum Part {
     MoveOp,
     Tens(u64),
     Aperture(u64),
-    Axis(bool),
-    Signed(bool, bool),
+    Axis(Axis),
+    Signed(Axis, Sign),
     PlotD,
     M,
     MZero,
@@ -50,13 +62,13 @@ pub enum Part {
 }
 
 // What has been read. Bad: no allowed command starts so. Whole: the last byte ended this command. Number:
-// of Y and not of X, with a minus, so many digits, their value.
+// its axis, its sign, how many digits, their value.
 #[derive(Clone, Copy)]
 pub enum Mode {
     Bad,
     Outside(Gap),
     Whole(Command),
-    Number(bool, bool, u64, u64),
+    Number(Axis, Sign, u64, u64),
     Inside(Part),
 }
 
@@ -96,22 +108,18 @@ pub fn run(s: Scanner, chunk: &[u8], from: usize) -> Scanned
     ensures { result ≡ scanned_from s chunk.now from }
 {
     let mut scanner = s;
-    let mut i = from;
-    while i < chunk.len() {
-        let one = step(scanner, chunk[i]);
-        i += 1;
-        scanner = one;
-        let mode = one.mode;
-        if is_stop(mode) {
+    for i in from..chunk.len() {
+        scanner = step(scanner, chunk[i]);
+        if is_stop(scanner.mode) {
             return Scanned {
-                scanner: scanner,
-                end: i,
+                scanner,
+                end: i + 1,
             };
         }
     }
     Scanned {
-        scanner: scanner,
-        end: i,
+        scanner,
+        end: from.max(chunk.len()),
     }
 }
 
@@ -119,78 +127,29 @@ pub fn run(s: Scanner, chunk: &[u8], from: usize) -> Scanned
 fn is_stop(m: Mode) -> bool
     ensures { result ≡ is_stop m }
 {
-    match m {
-        Mode::Bad => true,
-        Mode::Outside(_) => false,
-        Mode::Whole(_) => true,
-        Mode::Number(_, _, _, _) => false,
-        Mode::Inside(_) => false,
-    }
+    matches!(m, Mode::Bad | Mode::Whole(_))
 }
 
 // Whether the file may end here: M02 has been read, and then line ends alone.
 pub fn is_ended(m: Mode) -> bool
     ensures { result ≡ is_ended m }
 {
-    match m {
-        Mode::Bad => false,
-        Mode::Outside(g) => is_ended_gap(g),
-        Mode::Whole(c) => is_ended_whole(c),
-        Mode::Number(_, _, _, _) => false,
-        Mode::Inside(_) => false,
-    }
+    matches!(m, Mode::Outside(Gap::Ended) | Mode::Whole(Command::End))
 }
 
-fn is_ended_gap(g: Gap) -> bool
-    ensures { result ≡ is_ended_gap g }
-{
-    match g {
-        Gap::First => false,
-        Gap::Second => false,
-        Gap::Between => false,
-        Gap::Ended => true,
-    }
-}
-
-fn is_ended_whole(c: Command) -> bool
-    ensures { result ≡ is_ended_whole c }
-{
-    match c {
-        Command::Nothing => false,
-        Command::Choose(_) => false,
-        Command::Move => false,
-        Command::Line => false,
-        Command::End => true,
-    }
-}
-
-// One byte.
+// One byte. The count stays at the greatest number of its type: no file is so long.
+#[tactic(auto, unfolding(crate::specs::Scanner::stepped))]
 fn step(s: Scanner, b: u8) -> Scanner
     ensures { result ≡ stepped s b }
 {
-    let before = s.mode;
-    let mode = next::next(before, b);
-    let start = start_of(before, s.at, s.start);
-    let at = counted(s.at);
-    let x = x_of(mode, s.x);
-    let y = y_of(mode, s.y);
+    let mode = next::next(s.mode, b);
     Scanner {
-        mode: mode,
-        at: at,
-        start: start,
-        x: x,
-        y: y,
+        mode,
+        at: s.at.saturating_add(1),
+        start: start_of(s.mode, s.at, s.start),
+        x: number_of(Axis::X, mode, s.x),
+        y: number_of(Axis::Y, mode, s.y),
     }
-}
-
-// One byte more. The count stays at the greatest number of its type: no file is so long.
-fn counted(at: u64) -> u64
-    ensures { result ≡ counted at }
-{
-    if 18446744073709551615 <= at {
-        return at;
-    }
-    at + 1
 }
 
 // Where the command starts that a byte belongs to: with the byte, where none has been begun.
@@ -198,35 +157,17 @@ fn start_of(m: Mode, at: u64, start: u64) -> u64
     ensures { result ≡ start_of m at start }
 {
     match m {
-        Mode::Bad => start,
-        Mode::Outside(_) => at,
-        Mode::Whole(_) => at,
-        Mode::Number(_, _, _, _) => start,
-        Mode::Inside(_) => start,
+        Mode::Outside(_) | Mode::Whole(_) => at,
+        Mode::Bad | Mode::Number(_, _, _, _) | Mode::Inside(_) => start,
     }
 }
 
 // The number of an axis: what has been read of it, or the last one.
-fn x_of(m: Mode, last: i64) -> i64
-    ensures { result ≡ x_of m last }
+fn number_of(a: Axis, m: Mode, last: i64) -> i64
+    ensures { result ≡ number_of a m last }
 {
     match m {
-        Mode::Bad => last,
-        Mode::Outside(_) => last,
-        Mode::Whole(_) => last,
-        Mode::Number(y, minus, _, value) => if y { last } else { next::signed(minus, value) },
-        Mode::Inside(_) => last,
-    }
-}
-
-fn y_of(m: Mode, last: i64) -> i64
-    ensures { result ≡ y_of m last }
-{
-    match m {
-        Mode::Bad => last,
-        Mode::Outside(_) => last,
-        Mode::Whole(_) => last,
-        Mode::Number(y, minus, _, value) => if y { next::signed(minus, value) } else { last },
-        Mode::Inside(_) => last,
+        Mode::Number(axis, sign, _, value) if axis == a => next::signed(sign, value),
+        _ => last,
     }
 }

@@ -1,12 +1,15 @@
 // The table of modes, one byte at a time.
-ghost use Rattle.std.specs.Prelude.{◌≡◌, true, not, ◌&&◌, ltb, eqb, get_or};
-ghost use Rattle.scan.specs.Next.{header_bytes, is_digit, is_line_end, digit_of, only, pick, between, header, lead, digits, number, next, after_gap, after_part, after_whole, axis, choice, after_d};
+ghost use Rattle.std.specs.Prelude.{◌≡◌, true, ◌&&◌, ltb, eqb, get_or};
+ghost use Rattle.scan.specs.Next.{header_bytes, is_digit, is_line_end, digit_of, only, between, header, lead, digits, number, next, after_gap, after_part, after_whole, axis, choice, after_d};
 ghost use Rattle.scan.specs.Scanner.{signed};
 
-use crate::{Command, Gap, Mode, Part};
+use crate::{Axis, Command, Gap, Mode, Part, Sign};
 
 // The two lines that every file starts with.
 const HEADER: [u8; 20] = *b"%FSLAX36Y36*%%MOMM*%";
+
+// The greatest number of nine digits.
+const NINE_DIGITS: u64 = 999999999;
 
 pub fn next(m: Mode, b: u8) -> Mode
     ensures { result ≡ next m b }
@@ -15,142 +18,85 @@ pub fn next(m: Mode, b: u8) -> Mode
         Mode::Bad => Mode::Bad,
         Mode::Outside(g) => after_gap(g, b),
         Mode::Whole(c) => after_whole(c, b),
-        Mode::Number(y, minus, count, value) => number(y, minus, count, value, b),
+        Mode::Number(axis, sign, count, value) => number(axis, sign, count, value, b),
         Mode::Inside(p) => after_part(p, b),
     }
-}
-
-fn is_digit(b: u8) -> bool
-    ensures { result ≡ is_digit b }
-{
-    b'0' <= b && b <= b'9'
-}
-
-fn is_line_end(b: u8) -> bool
-    ensures { result ≡ is_line_end b }
-{
-    b == b'\r' || b == b'\n'
 }
 
 fn digit(b: u8) -> u64
     ensures { result ≡ digit_of b }
 {
-    if b'0' <= b { (b - b'0') as u64 } else { 0 }
-}
-
-fn expect(b: u8, wanted: u8, mode: Mode) -> Mode
-    ensures { result ≡ only (eqb b wanted) mode }
-{
-    if b == wanted {
-        return mode;
-    }
-    Mode::Bad
+    u64::from(b.saturating_sub(b'0'))
 }
 
 fn between(b: u8) -> Mode
     ensures { result ≡ between b }
 {
-    if is_line_end(b) {
-        return Mode::Outside(Gap::Between);
+    match b {
+        b'\r' | b'\n' => Mode::Outside(Gap::Between),
+        b'X' => Mode::Inside(Part::Axis(Axis::X)),
+        b'Y' => Mode::Inside(Part::Axis(Axis::Y)),
+        b'D' => Mode::Inside(Part::D),
+        b'G' => Mode::Inside(Part::G),
+        b'M' => Mode::Inside(Part::M),
+        _ => Mode::Bad,
     }
-    if b == b'X' {
-        return Mode::Inside(Part::Axis(false));
-    }
-    if b == b'Y' {
-        return Mode::Inside(Part::Axis(true));
-    }
-    if b == b'D' {
-        return Mode::Inside(Part::D);
-    }
-    if b == b'G' {
-        return Mode::Inside(Part::G);
-    }
-    expect(b, b'M', Mode::Inside(Part::M))
 }
 
 fn is_header(i: usize, b: u8) -> bool
     ensures { result ≡ (ltb i 20 && eqb b (get_or header_bytes i 0)) }
 {
-    if 20 <= i {
-        return false;
-    }
-    b == HEADER[i]
+    i < HEADER.len() && b == HEADER[i]
 }
 
 fn header(i: usize, b: u8) -> Mode
     ensures { result ≡ header i b }
 {
-    if !is_header(i, b) {
-        return Mode::Bad;
+    match i {
+        _ if !is_header(i, b) => Mode::Bad,
+        12 => Mode::Outside(Gap::Second),
+        19 => Mode::Whole(Command::Nothing),
+        _ => Mode::Inside(Part::Header(i + 1)),
     }
-    if i == 12 {
-        return Mode::Outside(Gap::Second);
-    }
-    if i == 19 {
-        return Mode::Whole(Command::Nothing);
-    }
-    Mode::Inside(Part::Header(i + 1))
 }
 
 fn lead(g: Gap, i: usize, b: u8) -> Mode
     ensures { result ≡ lead g i b }
 {
-    if is_line_end(b) {
-        return Mode::Outside(g);
+    match b {
+        b'\r' | b'\n' => Mode::Outside(g),
+        b'%' => Mode::Inside(Part::Header(i)),
+        _ => Mode::Bad,
     }
-    expect(b, b'%', Mode::Inside(Part::Header(i)))
 }
 
-fn digits(y: bool, minus: bool, count: u64, value: u64, b: u8) -> Mode
-    ensures { result ≡ digits y minus count value b }
+fn digits(axis: Axis, sign: Sign, count: u64, value: u64, b: u8) -> Mode
+    ensures { result ≡ digits axis sign count value b }
 {
-    if 9 <= count {
+    if 9 <= count || 100000000 <= value {
         return Mode::Bad;
     }
-    if 100000000 <= value {
-        return Mode::Bad;
-    }
-    Mode::Number(y, minus, count + 1, 10 * value + digit(b))
+    Mode::Number(axis, sign, count + 1, 10 * value + digit(b))
 }
 
-fn second_axis(y: bool) -> Mode
-    ensures { result ≡ only (not y) (Mode.Inside (Part.Axis true)) }
+fn number(axis: Axis, sign: Sign, count: u64, value: u64, b: u8) -> Mode
+    ensures { result ≡ number axis sign count value b }
 {
-    if y {
-        return Mode::Bad;
+    match b {
+        b'0'..=b'9' => digits(axis, sign, count, value, b),
+        b'Y' if axis == Axis::X => Mode::Inside(Part::Axis(Axis::Y)),
+        b'D' => Mode::Inside(Part::PlotD),
+        _ => Mode::Bad,
     }
-    Mode::Inside(Part::Axis(true))
-}
-
-fn number(y: bool, minus: bool, count: u64, value: u64, b: u8) -> Mode
-    ensures { result ≡ number y minus count value b }
-{
-    if is_digit(b) {
-        return digits(y, minus, count, value, b);
-    }
-    if b == b'Y' {
-        return second_axis(y);
-    }
-    expect(b, b'D', Mode::Inside(Part::PlotD))
-}
-
-// One of two modes, by the byte.
-fn either(b: u8, first: u8, one: Mode, second: u8, two: Mode) -> Mode
-    ensures { result ≡ pick (eqb b first) one (only (eqb b second) two) }
-{
-    if b == first {
-        return one;
-    }
-    expect(b, second, two)
 }
 
 fn ended(b: u8) -> Mode
     ensures { result ≡ only (is_line_end b) (Mode.Outside Gap.Ended) }
 {
-    if is_line_end(b) {
-        return Mode::Outside(Gap::Ended);
+    match b {
+        b'\r' | b'\n' => Mode::Outside(Gap::Ended),
+        _ => Mode::Bad,
     }
-    Mode::Bad
 }
 
 fn after_whole(c: Command, b: u8) -> Mode
@@ -158,65 +104,46 @@ fn after_whole(c: Command, b: u8) -> Mode
 {
     match c {
         Command::End => ended(b),
-        Command::Nothing => between(b),
-        Command::Choose(_) => between(b),
-        Command::Move => between(b),
-        Command::Line => between(b),
+        _ => between(b),
     }
-}
-
-fn comment(b: u8) -> Mode
-    ensures { result ≡ pick (eqb b 42) (Mode.Whole Command.Nothing) (Mode.Inside Part.Comment) }
-{
-    if b == b'*' {
-        return Mode::Whole(Command::Nothing);
-    }
-    Mode::Inside(Part::Comment)
 }
 
 fn after_d(b: u8) -> Mode
     ensures { result ≡ after_d b }
 {
-    if b == b'0' {
-        return Mode::Inside(Part::DZero);
+    match b {
+        b'0' => Mode::Inside(Part::DZero),
+        b'1'..=b'9' => Mode::Inside(Part::Tens(digit(b))),
+        _ => Mode::Bad,
     }
-    if is_digit(b) {
-        return Mode::Inside(Part::Tens(digit(b)));
-    }
-    Mode::Bad
 }
 
 fn choice(t: u64, b: u8) -> Mode
     ensures { result ≡ choice t b }
 {
-    if !is_digit(b) {
-        return Mode::Bad;
-    }
-    if 10 <= t {
+    if !b.is_ascii_digit() || 10 <= t {
         return Mode::Bad;
     }
     Mode::Inside(Part::Aperture(10 * t + digit(b)))
 }
 
-fn first_digit(y: bool, minus: bool, b: u8) -> Mode
-    ensures { result ≡ only (is_digit b) (Mode.Number y minus 1 (digit_of b)) }
+fn first_digit(axis: Axis, sign: Sign, b: u8) -> Mode
+    ensures { result ≡ only (is_digit b) (Mode.Number axis sign 1 (digit_of b)) }
 {
-    if is_digit(b) {
-        return Mode::Number(y, minus, 1, digit(b));
+    match b {
+        b'0'..=b'9' => Mode::Number(axis, sign, 1, digit(b)),
+        _ => Mode::Bad,
     }
-    Mode::Bad
 }
 
-fn axis(y: bool, b: u8) -> Mode
-    ensures { result ≡ axis y b }
+fn axis(a: Axis, b: u8) -> Mode
+    ensures { result ≡ axis a b }
 {
-    if b == b'+' {
-        return Mode::Inside(Part::Signed(y, false));
+    match b {
+        b'+' => Mode::Inside(Part::Signed(a, Sign::Plus)),
+        b'-' => Mode::Inside(Part::Signed(a, Sign::Minus)),
+        _ => first_digit(a, Sign::Plus, b),
     }
-    if b == b'-' {
-        return Mode::Inside(Part::Signed(y, true));
-    }
-    first_digit(y, false, b)
 }
 
 fn after_gap(g: Gap, b: u8) -> Mode
@@ -233,46 +160,40 @@ fn after_gap(g: Gap, b: u8) -> Mode
 fn after_part(p: Part, b: u8) -> Mode
     ensures { result ≡ after_part p b }
 {
-    match p {
-        Part::Header(i) => header(i, b),
-        Part::G => expect(b, b'0', Mode::Inside(Part::GZero)),
-        Part::GZero => either(
-            b,
-            b'1',
-            Mode::Inside(Part::Linear),
-            b'4',
-            Mode::Inside(Part::Comment),
-        ),
-        Part::Linear => expect(b, b'*', Mode::Whole(Command::Nothing)),
-        Part::Comment => comment(b),
-        Part::D => after_d(b),
-        Part::DZero => either(
-            b,
-            b'1',
-            Mode::Inside(Part::LineOp),
-            b'2',
-            Mode::Inside(Part::MoveOp),
-        ),
-        Part::LineOp => expect(b, b'*', Mode::Whole(Command::Line)),
-        Part::MoveOp => expect(b, b'*', Mode::Whole(Command::Move)),
-        Part::Tens(t) => choice(t, b),
-        Part::Aperture(n) => expect(b, b'*', Mode::Whole(Command::Choose(n))),
-        Part::Axis(y) => axis(y, b),
-        Part::Signed(y, minus) => first_digit(y, minus, b),
-        Part::PlotD => expect(b, b'0', Mode::Inside(Part::DZero)),
-        Part::M => expect(b, b'0', Mode::Inside(Part::MZero)),
-        Part::MZero => expect(b, b'2', Mode::Inside(Part::EndOp)),
-        Part::EndOp => expect(b, b'*', Mode::Whole(Command::End)),
+    match (p, b) {
+        (Part::Header(i), _) => header(i, b),
+        (Part::G, b'0') => Mode::Inside(Part::GZero),
+        (Part::GZero, b'1') => Mode::Inside(Part::Linear),
+        (Part::GZero, b'4') => Mode::Inside(Part::Comment),
+        (Part::Linear, b'*') => Mode::Whole(Command::Nothing),
+        (Part::Comment, b'*') => Mode::Whole(Command::Nothing),
+        (Part::Comment, _) => Mode::Inside(Part::Comment),
+        (Part::D, _) => after_d(b),
+        (Part::DZero, b'1') => Mode::Inside(Part::LineOp),
+        (Part::DZero, b'2') => Mode::Inside(Part::MoveOp),
+        (Part::LineOp, b'*') => Mode::Whole(Command::Line),
+        (Part::MoveOp, b'*') => Mode::Whole(Command::Move),
+        (Part::Tens(t), _) => choice(t, b),
+        (Part::Aperture(n), b'*') => Mode::Whole(Command::Choose(n)),
+        (Part::Axis(a), _) => axis(a, b),
+        (Part::Signed(a, sign), _) => first_digit(a, sign, b),
+        (Part::PlotD, b'0') => Mode::Inside(Part::DZero),
+        (Part::M, b'0') => Mode::Inside(Part::MZero),
+        (Part::MZero, b'2') => Mode::Inside(Part::EndOp),
+        (Part::EndOp, b'*') => Mode::Whole(Command::End),
+        _ => Mode::Bad,
     }
 }
 
 // A number with its sign; 0 for one of more than nine digits, which no scanner holds.
-pub fn signed(minus: bool, value: u64) -> i64
-    ensures { result ≡ signed minus value }
+pub fn signed(sign: Sign, value: u64) -> i64
+    ensures { result ≡ signed sign value }
 {
-    if 999999999 < value {
+    if NINE_DIGITS < value {
         return 0;
     }
-    let size = value as i64;
-    if minus { -size } else { size }
+    match sign {
+        Sign::Plus => value as i64,
+        Sign::Minus => -(value as i64),
+    }
 }

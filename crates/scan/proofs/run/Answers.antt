@@ -5,11 +5,14 @@ use Rattle.scan.proofs.run.Goals as goal
 
 pub returns-then-is_stop : goal.returns-then-is_stop
 returns-then-is_stop c =
-    stops c.loop-i.scanner c.args.chunk.now c.loop-i.i (omega arith) c.step-one.ensures (sym c.if-is_stop.ensures) ∙ c.loop-i.invariant
+    stops c.loop-i.scanner c.args.chunk.now c.loop-i.i (omega arith) c.step-scanner.ensures (sym c.if-is_stop.ensures) ∙ c.loop-i.invariant.scanned
 
 pub loop-i-preserved : goal.loop-i-preserved
-loop-i-preserved c =
-    goes_on c.loop-i.scanner c.args.chunk.now c.loop-i.i (omega arith) c.step-one.ensures (sym c.if-is_stop.ensures) ∙ c.loop-i.invariant
+loop-i-preserved c = record {
+  within = omega arith;
+  scanned =
+      goes_on c.loop-i.scanner c.args.chunk.now c.loop-i.i (omega arith) c.step-scanner.ensures (sym c.if-is_stop.ensures) ∙ c.loop-i.invariant.scanned;
+}
 
 pub returns : goal.returns
-returns c = past c.loop-i.scanner c.args.chunk.now c.loop-i.i (omega arith) ∙ c.loop-i.invariant
+returns c = past c.loop-i.scanner c.args.chunk.now c.loop-i.i c.max.result (omega arith) (omega arith) ∙ c.loop-i.invariant.scanned
