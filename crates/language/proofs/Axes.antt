@@ -1,11 +1,13 @@
 -- The bytes of a plot, followed: X, Y, "D01*" and "D02*".
 use Prim.Native.Nat.{ℕ}
 use mathlib.Core.Path.{◌≡◌, refl}
-use mathlib.Core.Bool.{Bool, true, false}
 use mathlib.Core.List.{List, ◌++◌}
 use mathlib.Core.Option.{Option}
 use lib.IntN.{ℤ}
 use Rattle.text.specs.Ascii.{ascii}
+use Rattle.scan.specs.declared.Axis as axis·
+use Rattle.scan.specs.declared.Axis.TheVariants.{X, Y}
+use Rattle.scan.specs.declared.Sign as sign·
 use Rattle.scan.specs.declared.Mode.{Mode}
 use Rattle.scan.specs.declared.Mode.TheVariants as mode·
 use Rattle.scan.specs.declared.Gap.TheVariants as gap·
@@ -19,11 +21,11 @@ use Rattle.language.proofs.Numbers.{named_goes}
 -- the modes in which Y, and D, may come
 pub data BeforeY : Mode → Type 0 where
   none_yet : BeforeY (mode·.Outside gap·.Between)
-  number : (s : Bool) (n v : ℕ) → BeforeY (mode·.Number false s n v)
+  number : (s : sign·.Sign) (n v : ℕ) → BeforeY (mode·.Number X s n v)
 
 pub data BeforeD : Mode → Type 0 where
   no_axis : BeforeD (mode·.Outside gap·.Between)
-  some_axis : (a s : Bool) (n v : ℕ) → BeforeD (mode·.Number a s n v)
+  some_axis : (a : axis·.Axis) (s : sign·.Sign) (n v : ℕ) → BeforeD (mode·.Number a s n v)
 
 -- an axis that leads to such a mode
 record Axed (P : Mode → Type 0) (m : Mode) (x y : ℤ) (l : List ℕ) (u v : ℤ) : Type 0 where
@@ -36,8 +38,8 @@ x_goes : (x y : ℤ) {l : List ℕ} {u : Option ℤ} → Axis (ascii "X") l u �
 unfolding ascii
 x_goes x y omitted = record { mode = mode·.Outside gap·.Between; ready = none_yet; axed = stays }
 x_goes x y (named n) =
-    let h = named_goes (mode·.Outside gap·.Between) false x y 88 refl n in
-    record { mode = mode·.Number false h.sign h.count h.value; ready = number h.sign h.count h.value; axed = h.numbered }
+    let h = named_goes (mode·.Outside gap·.Between) X x y 88 refl n in
+    record { mode = mode·.Number X h.sign h.count h.value; ready = number h.sign h.count h.value; axed = h.numbered }
 
 y_goes : {m : Mode} → BeforeY m → (x y : ℤ) {l : List ℕ} {u : Option ℤ} → Axis (ascii "Y") l u → Axed BeforeD m x y l x (kept u y)
 unfolding ascii
@@ -45,12 +47,12 @@ y_goes {m} r x y omitted = record { mode = m; ready = still r; axed = stays }
   where
     still : {m : Mode} → BeforeY m → BeforeD m
     still none_yet = no_axis
-    still (number s n v) = some_axis false s n v
+    still (number s n v) = some_axis X s n v
 y_goes {m} r x y (named n) =
-    let h = named_goes m true x y 89 (letter r) n in
-    record { mode = mode·.Number true h.sign h.count h.value; ready = some_axis true h.sign h.count h.value; axed = h.numbered }
+    let h = named_goes m Y x y 89 (letter r) n in
+    record { mode = mode·.Number Y h.sign h.count h.value; ready = some_axis Y h.sign h.count h.value; axed = h.numbered }
   where
-    letter : {m : Mode} → BeforeY m → next m 89 ≡ mode·.Inside (part·.Axis true)
+    letter : {m : Mode} → BeforeY m → next m 89 ≡ mode·.Inside (part·.Axis Y)
     letter none_yet = refl
     letter (number s n v) = refl
 

@@ -8,6 +8,7 @@ use mathlib.Core.Option.{Option}
 use lib.IntN.{ℤ}
 use Rattle.integers.proofs.Tests.{clash}
 use Rattle.text.specs.Ascii.{ascii}
+use Rattle.scan.specs.declared.Axis.TheVariants.{X, Y}
 use Rattle.scan.specs.declared.Mode.{Mode}
 use Rattle.scan.specs.declared.Mode.TheVariants as mode·
 use Rattle.scan.specs.declared.Part.TheVariants as part·
@@ -50,17 +51,17 @@ module _ {k l : List ℕ} {x y : Option ℤ} (h : Axis (ascii "X") k x) (i : Axi
       never (λ w. L (b ∷ w)) m
 
 -- behind Y's number, and behind Y
-behind_second : {k l : List ℕ} {x : Option ℤ} {z : ℤ} → Axis (ascii "X") k x → Number l z → Behind true (λ w. Command commands (k ++ (89 ∷ l) ++ w))
+behind_second : {k l : List ℕ} {x : Option ℤ} {z : ℤ} → Axis (ascii "X") k x → Number l z → Behind Y (λ w. Command commands (k ++ (89 ∷ l) ++ w))
 unfolding ascii
-behind_second h n = record { word = drawing h (named n); plot = plot h (named n); axis = λ e. absurd (clash refl e) }
+behind_second h n = record { word = drawing h (named n); plot = plot h (named n); axis = λ e. absurd (clash e refl) }
 
-second_axis : {k : List ℕ} {x : Option ℤ} → Axis (ascii "X") k x → (l : List ℕ) → Found (mode·.Inside (part·.Axis true)) (λ w. Command commands (k ++ (89 ∷ w))) l
+second_axis : {k : List ℕ} {x : Option ℤ} → Axis (ascii "X") k x → (l : List ℕ) → Found (mode·.Inside (part·.Axis Y)) (λ w. Command commands (k ++ (89 ∷ w))) l
 second_axis {k} h =
-    axis_found true (λ w. Command commands (k ++ (89 ∷ w)))
+    axis_found Y (λ w. Command commands (k ++ (89 ∷ w)))
     (λ n z i. behind_recast (λ w. subst (Command commands) (append_assoc k (89 ∷ n) w)) (behind_second h i))
 
 -- behind X's number, and behind X
-behind_first : {l : List ℕ} {z : ℤ} → Number l z → Behind false (λ w. Command commands (88 ∷ l ++ w))
+behind_first : {l : List ℕ} {z : ℤ} → Number l z → Behind X (λ w. Command commands (88 ∷ l ++ w))
 unfolding ascii
 behind_first {l} n =
     let c : (w : List ℕ) → Command commands (88 ∷ l ++ [] ++ w) → Command commands (88 ∷ l ++ w) = λ w. subst (λ (t : List ℕ). Command commands (88 ∷ t ++ w)) (append-nil l) in
@@ -70,8 +71,8 @@ behind_first {l} n =
       axis = λ _. second_axis (named n);
     }
 
-first_axis : (l : List ℕ) → Found (mode·.Inside (part·.Axis false)) (λ w. Command commands (88 ∷ w)) l
-first_axis = axis_found false (λ w. Command commands (88 ∷ w)) (λ n z i. behind_first i)
+first_axis : (l : List ℕ) → Found (mode·.Inside (part·.Axis X)) (λ w. Command commands (88 ∷ w)) l
+first_axis = axis_found X (λ w. Command commands (88 ∷ w)) (λ n z i. behind_first i)
 
 -- ---- behind D: "01*" and "02*" of a plot with no axis, or a choice; behind G: "01*", or "04" and a comment
 after_d_lem : (l : List ℕ) → Found (mode·.Inside part·.D) (λ w. Command commands (68 ∷ w)) l

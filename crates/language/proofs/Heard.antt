@@ -1,14 +1,12 @@
 -- What a scanner hears: inside a command nothing, behind it the command, and of bytes that no command has, or that are cut off, the place.
 use Prim.Native.Nat.{ℕ, suc, ◌+◌, ◌^◌, ◌<◌}
 use native.Mathlib.Omega.{arith}
-use native.Mathlib.Numerals.{add-one}
 use mathlib.Core.Path.{◌≡◌, refl, sym, ap, ap₂, ◌∙◌}
 use mathlib.Core.Bool.{Bool, true, false, cond}
 use mathlib.Core.List.{List, [], ◌∷◌, ◌++◌}
 use mathlib.Core.Option.{none, some}
 use lib.ListN.{length}
 use lib.IntN.{ℤ}
-use borrow.Author.Tests.{lt-leb}
 use Rattle.integers.proofs.Tests.{clash}
 use Rattle.scan.specs.declared.Mode.{Mode}
 use Rattle.scan.specs.declared.Mode.TheVariants.{Bad, Outside}
@@ -22,18 +20,18 @@ use Rattle.language.proofs.Rests.{gap_of, Rests}
 
 -- a file of fewer than 2^64 bytes is counted
 pub counted_one : (i : ℕ) → suc i < 2 ^ 64 → counted i ≡ suc i
-counted_one i h = ap (λ (t : Bool). cond t i (i + 1)) (lt-leb 18446744073709551615 i (omega arith)) ∙ add-one i
+counted_one i h = omega arith
 
 -- ---- inside a command nothing is heard, its start is kept, and the file may not end
 module _ (m : Mode) (i : is_inside m ≡ true) where
   inside_silent : (s : Scanner) (h : Heard) → heard_by m s h ≡ h
-  inside_silent s h = inside_cases (λ m. heard_by m s h ≡ h) (λ y minus n v. refl) (λ p. refl) m i
+  inside_silent s h = inside_cases (λ m. heard_by m s h ≡ h) (λ a sign n v. refl) (λ p. refl) m i
 
   inside_start : (at start : ℕ) → start_of m at start ≡ start
-  inside_start at start = inside_cases (λ m. start_of m at start ≡ start) (λ y minus n v. refl) (λ p. refl) m i
+  inside_start at start = inside_cases (λ m. start_of m at start ≡ start) (λ a sign n v. refl) (λ p. refl) m i
 
   inside_not_ended : is_ended m ≡ false
-  inside_not_ended = inside_cases (λ m. is_ended m ≡ false) (λ y minus n v. refl) (λ p. refl) m i
+  inside_not_ended = inside_cases (λ m. is_ended m ≡ false) (λ a sign n v. refl) (λ p. refl) m i
 
 -- ---- what is heard from the last byte on
 abbrev pub heard_from : Scanner → List ℕ → Heard

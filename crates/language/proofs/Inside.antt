@@ -4,6 +4,8 @@ use mathlib.Core.Path.{◌≡◌, refl, sym, ap, ◌∙◌}
 use mathlib.Core.Bool.{Bool, true, false, cond}
 use mathlib.Core.List.{List, [], ◌∷◌, ◌++◌}
 use Rattle.integers.proofs.Tests.{clash}
+use Rattle.scan.specs.declared.Axis.{Axis}
+use Rattle.scan.specs.declared.Sign.{Sign}
 use Rattle.scan.specs.declared.Mode.{Mode}
 use Rattle.scan.specs.declared.Mode.TheVariants.{Bad, Outside, Whole, Number, Inside}
 use Rattle.scan.specs.declared.Part.{Part}
@@ -14,15 +16,15 @@ abbrev pub is_inside : Mode → Bool
 is_inside Bad = false
 is_inside (Outside g) = false
 is_inside (Whole c) = false
-is_inside (Number y minus n v) = true
+is_inside (Number a sign n v) = true
 is_inside (Inside p) = true
 
 -- there are two kinds
-pub inside_cases : (P : Mode → Type 0) → ((y minus : Bool) (n v : ℕ) → P (Number y minus n v)) → ((p : Part) → P (Inside p)) → (m : Mode) → is_inside m ≡ true → P m
+pub inside_cases : (P : Mode → Type 0) → ((a : Axis) (sign : Sign) (n v : ℕ) → P (Number a sign n v)) → ((p : Part) → P (Inside p)) → (m : Mode) → is_inside m ≡ true → P m
 inside_cases P f g Bad e = absurd (clash e refl)
 inside_cases P f g (Outside h) e = absurd (clash e refl)
 inside_cases P f g (Whole c) e = absurd (clash e refl)
-inside_cases P f g (Number y minus n v) e = f y minus n v
+inside_cases P f g (Number a sign n v) e = f a sign n v
 inside_cases P f g (Inside p) e = g p
 
 -- reading on while inside

@@ -112,7 +112,7 @@ abbrev mode_form : Mode → ℕ → Option ℤ → Option ℤ → Form
 mode_form Bad b u v = closing
 mode_form (Outside g) b u v = closing
 mode_form (Whole c) b u v = command_form c b u v
-mode_form (Number y minus n w) b u v = closing
+mode_form (Number a sign n w) b u v = closing
 mode_form (Inside p) b u v = closing
 
 abbrev phase_form : Phase → Mode → ℕ → Option ℤ → Option ℤ → Form

@@ -44,7 +44,7 @@ abbrev mode_kind : Phase → Mode → Kind
 mode_kind p Bad = neither
 mode_kind p (Outside g) = gap_kind p g
 mode_kind p (Whole c) = whole_command
-mode_kind p (Number y minus n v) = neither
+mode_kind p (Number a sign n v) = neither
 mode_kind p (Inside q) = neither
 
 abbrev kind : Phase → List ℕ → Kind
@@ -89,7 +89,7 @@ command_kind {p} a s k = let h = spelt a s (pos 0) (pos 0) in ends_kind p h k �
 
 -- no command ends inside one
 inside_kind : (p : Phase) (m : Mode) → is_inside m ≡ true → mode_kind p m ≡ neither
-inside_kind p = inside_cases (λ m. mode_kind p m ≡ neither) (λ y minus n v. refl) (λ q. refl)
+inside_kind p = inside_cases (λ m. mode_kind p m ≡ neither) (λ a sign n v. refl) (λ q. refl)
 
 -- ---- readings that stop at once: at the end, where a command is cut off, and at bytes that no command has
 record Stops (p : Phase) (i : ℕ) (l : List ℕ) (bad : Option ℕ) : Type 0 where
