@@ -79,7 +79,7 @@ acting : (m : Mode) (t : Table) (s : State) → AsLong s (acted_by m t s)
 acting Bad t s = refl
 acting (Outside g) t s = refl
 acting (Whole c) t s = obeying_word t s (word_of c s.reader.scanner.x s.reader.scanner.y)
-acting (Number y minus n v) t s = refl
+acting (Number a sign n v) t s = refl
 acting (Inside p) t s = refl
 
 step_as_long : (t : Table) (s : State) (b : ℕ) → AsLong (reading s b) (step_of t s b)

@@ -72,7 +72,7 @@ goes_by : (m : Mode) (t : Table) (s : State) → is_stop m ≡ false → acted_b
 goes_by Bad t s e = absurd (clash refl e)
 goes_by (Outside g) t s e = refl
 goes_by (Whole c) t s e = absurd (clash refl e)
-goes_by (Number y minus n v) t s e = refl
+goes_by (Number a sign n v) t s e = refl
 goes_by (Inside p) t s e = refl
 
 -- ---- to the end of a command: where the scanner has stopped, and what is then asked for

@@ -118,7 +118,7 @@ abbrev pub acted_by : Mode → Table → State → Step
 acted_by Bad t s = refuses command s.reader.scanner.start s
 acted_by (Outside g) t s = goes s
 acted_by (Whole c) t s = obeyed_word t s (word_of c s.reader.scanner.x s.reader.scanner.y)
-acted_by (Number y minus n v) t s = goes s
+acted_by (Number a sign n v) t s = goes s
 acted_by (Inside p) t s = goes s
 
 unfoldable pub acted : Table → State → Step

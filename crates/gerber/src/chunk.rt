@@ -1,36 +1,37 @@
 // A chunk of a file: the scanner runs to the end of a command, and what the command asks for is done.
 ghost use Rattle.std.specs.Prelude.{◌≡◌, length};
 ghost use Rattle.chunks.specs.Machine.{call};
-ghost use Rattle.gerber.specs.Reader.{with_scanner, acted, step_of, shown, is_end, used_of, answer};
+ghost use Rattle.gerber.specs.Reader.{acted, step_of, shown, is_end, used_of, answer};
 
 use crate::{Fed, Given, Obeyed, Reader, command};
 use aperture::Table;
-use scan::{Mode, Scanner};
+use scan::Mode;
 
+// How far a turn reads is the scanner's to say, so that no iterator gives the turns.
 pub fn feed_on(r: Reader, t: Table, chunk: &[u8], path: &mut [i32]) -> Fed
     ensures { record { fed = result; entries = path.new } ≡ answer (length chunk.now) (call (step_of t) (record { reader = r; path = path.old }) chunk.now) }
 {
     let mut reader = r;
     let mut i = 0;
     while i < chunk.len() {
-        let scanner = reader.scanner;
-        let scanned = scan::run(scanner, chunk, i);
+        let scanned = scan::run(reader.scanner, chunk, i);
         i = scanned.end;
-        let after = scanned.scanner;
-        let one = act(with_scanner(reader, after), t, path);
-        let next = one.reader;
-        reader = next;
-        let given = one.given;
-        if is_end(given) {
+        let stopped = Reader {
+            scanner: scanned.scanner,
+            ..reader
+        };
+        let one = act(stopped, t, path);
+        reader = one.reader;
+        if is_end(one.given) {
             return Fed {
-                reader: reader,
-                given: given,
-                used: used_of(given, i),
+                reader,
+                given: one.given,
+                used: used_of(one.given, i),
             };
         }
     }
     Fed {
-        reader: reader,
+        reader,
         given: Given::More,
         used: i,
     }
@@ -41,29 +42,10 @@ pub fn feed_on(r: Reader, t: Table, chunk: &[u8], path: &mut [i32]) -> Fed
 fn act(r: Reader, t: Table, path: &mut [i32]) -> Obeyed
     ensures { record { told = result; entries = path.new } ≡ shown (acted t (record { reader = r; path = path.old })) }
 {
-    let scanner = r.scanner;
-    let mode = scanner.mode;
-    let start = scanner.start;
-    match mode {
-        Mode::Bad => command::refuse(r, limits::BAD_COMMAND, start),
-        Mode::Outside(_) => command::goes(r),
+    match r.scanner.mode {
+        Mode::Bad => command::refuse(r, limits::BAD_COMMAND, r.scanner.start),
         Mode::Whole(c) => command::obey(r, t, c, path),
-        Mode::Number(_, _, _, _) => command::goes(r),
-        Mode::Inside(_) => command::goes(r),
-    }
-}
-
-fn with_scanner(r: Reader, scanner: Scanner) -> Reader
-    ensures { result ≡ with_scanner r scanner }
-{
-    let trace = r.trace;
-    Reader {
-        unit: r.unit,
-        refusal: r.refusal,
-        place: r.place,
-        scanner: scanner,
-        aperture: r.aperture,
-        trace: trace,
+        _ => command::goes(r),
     }
 }
 
@@ -71,12 +53,7 @@ fn with_scanner(r: Reader, scanner: Scanner) -> Reader
 fn is_end(g: Given) -> bool
     ensures { result ≡ is_end g }
 {
-    match g {
-        Given::More => false,
-        Given::Stroke(_, _, _) => true,
-        Given::Done => true,
-        Given::Refused(_, _) => true,
-    }
+    !matches!(g, Given::More)
 }
 
 // The bytes used: none for a refusal.
@@ -84,9 +61,7 @@ fn used_of(g: Given, read: usize) -> usize
     ensures { result ≡ used_of g read }
 {
     match g {
-        Given::More => read,
-        Given::Stroke(_, _, _) => read,
-        Given::Done => read,
         Given::Refused(_, _) => 0,
+        _ => read,
     }
 }

@@ -9,7 +9,6 @@ use crate::{Given, Obeyed, Reader};
 use aperture::{Looked, Table};
 use limits::Verdict;
 use scan::Command;
-use trace::Trace;
 
 // A whole command. Its numbers are the scanner's, and so is its place.
 #[tactic(auto, unfolding(crate::specs::Reader::obeyed))]
@@ -47,29 +46,10 @@ pub fn refuse(r: Reader, number: u64, place: u64) -> Obeyed
 pub fn latched(r: Reader, number: u64, place: u64) -> Reader
     ensures { result ≡ latched r number place }
 {
-    let scanner = r.scanner;
-    let trace = r.trace;
     Reader {
-        unit: r.unit,
         refusal: number,
-        place: place,
-        scanner: scanner,
-        aperture: r.aperture,
-        trace: trace,
-    }
-}
-
-fn with_trace(r: Reader, aperture: u64, trace: Trace) -> Reader
-    ensures { result ≡ with_trace r aperture trace }
-{
-    let scanner = r.scanner;
-    Reader {
-        unit: r.unit,
-        refusal: r.refusal,
-        place: r.place,
-        scanner: scanner,
-        aperture: aperture,
-        trace: trace,
+        place,
+        ..r
     }
 }
 
@@ -77,8 +57,7 @@ fn with_trace(r: Reader, aperture: u64, trace: Trace) -> Reader
 fn close(r: Reader, next: Reader) -> Obeyed
     ensures { (p : List ℤ) → record { told = result; entries = p } ≡ shown (closes r (record { reader = next; path = p })) }
 {
-    let trace = r.trace;
-    let ended = trace::end(trace);
+    let ended = trace::end(r.trace);
     if ended.length == 0 {
         return goes(next);
     }
@@ -91,13 +70,13 @@ fn close(r: Reader, next: Reader) -> Obeyed
 fn choose(r: Reader, t: Table, n: u64) -> Obeyed
     ensures { (p : List ℤ) → record { told = result; entries = p } ≡ shown (chooses t r.scanner.start n (record { reader = r; path = p })) }
 {
-    let scanner = r.scanner;
-    let trace = r.trace;
-    let ended = trace::end(trace);
-    let after = ended.trace;
-    let next = with_trace(r, n, after);
     let Looked::At(_) = aperture::look_up(t, n) else {
-        return refuse(r, limits::NO_APERTURE, scanner.start);
+        return refuse(r, limits::NO_APERTURE, r.scanner.start);
+    };
+    let next = Reader {
+        aperture: n,
+        trace: trace::end(r.trace).trace,
+        ..r
     };
     close(r, next)
 }
@@ -106,24 +85,21 @@ fn choose(r: Reader, t: Table, n: u64) -> Obeyed
 fn x_of(r: Reader) -> i32
     ensures { result ≡ in_units r.scanner.x r.unit }
 {
-    let scanner = r.scanner;
-    units::in_units(scanner.x, r.unit)
+    units::in_units(r.scanner.x, r.unit)
 }
 
 fn y_of(r: Reader) -> i32
     ensures { result ≡ in_units r.scanner.y r.unit }
 {
-    let scanner = r.scanner;
-    units::in_units(scanner.y, r.unit)
+    units::in_units(r.scanner.y, r.unit)
 }
 
 fn shift(r: Reader) -> Obeyed
     ensures { (p : List ℤ) → record { told = result; entries = p } ≡ shown (moves r.scanner.start (in_units r.scanner.x r.unit) (in_units r.scanner.y r.unit) (record { reader = r; path = p })) }
 {
-    let scanner = r.scanner;
     let x = x_of(r);
     let y = y_of(r);
-    match trace::move_check(x, y, scanner.start) {
+    match trace::move_check(x, y, r.scanner.start) {
         Verdict::Refused(number, place) => refuse(r, number, place),
         Verdict::Passed => moved(r, x, y),
     }
@@ -132,28 +108,26 @@ fn shift(r: Reader) -> Obeyed
 fn moved(r: Reader, x: i32, y: i32) -> Obeyed
     ensures { (p : List ℤ) → record { told = result; entries = p } ≡ shown (closes r (record { reader = with_trace r r.aperture (moved r.trace x y); path = p })) }
 {
-    let trace = r.trace;
-    let after = trace::move_to(trace, x, y);
-    close(r, with_trace(r, r.aperture, after))
+    let next = Reader {
+        trace: trace::move_to(r.trace, x, y),
+        ..r
+    };
+    close(r, next)
 }
 
 fn draw(r: Reader, path: &mut [i32]) -> Obeyed
     ensures { record { told = result; entries = path.new } ≡ shown (draws r.scanner.start (in_units r.scanner.x r.unit) (in_units r.scanner.y r.unit) (record { reader = r; path = path.old })) }
 {
-    let scanner = r.scanner;
-    let start = scanner.start;
-    let trace = r.trace;
-    let unplaced = !trace.placed;
-    let unchosen = r.aperture == 0;
-    if unplaced {
+    let start = r.scanner.start;
+    if !r.trace.placed {
         return refuse(r, limits::BAD_COMMAND, start);
     }
-    if unchosen {
+    if r.aperture == 0 {
         return refuse(r, limits::NO_APERTURE, start);
     }
     let x = x_of(r);
     let y = y_of(r);
-    match trace::line_check(trace, x, y, path.len(), start) {
+    match trace::line_check(r.trace, x, y, path.len(), start) {
         Verdict::Refused(number, place) => refuse(r, number, place),
         Verdict::Passed => lined(r, x, y, path),
     }
@@ -162,16 +136,13 @@ fn draw(r: Reader, path: &mut [i32]) -> Obeyed
 fn lined(r: Reader, x: i32, y: i32, path: &mut [i32]) -> Obeyed
     ensures { record { told = result; entries = path.new } ≡ shown (joins x y (record { reader = r; path = path.old })) }
 {
-    let trace = r.trace;
-    let after = trace::line(trace, x, y, path);
-    goes(with_trace(r, r.aperture, after))
+    let trace = trace::line(r.trace, x, y, path);
+    goes(Reader { trace, ..r })
 }
 
 fn end(r: Reader) -> Obeyed
     ensures { (p : List ℤ) → record { told = result; entries = p } ≡ shown (closes r (record { reader = with_trace r r.aperture (ended r.trace).trace; path = p })) }
 {
-    let trace = r.trace;
-    let ended = trace::end(trace);
-    let after = ended.trace;
-    close(r, with_trace(r, r.aperture, after))
+    let trace = trace::end(r.trace).trace;
+    close(r, Reader { trace, ..r })
 }

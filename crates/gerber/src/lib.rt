@@ -61,7 +61,7 @@ pub fn start(unit: u64) -> Reader
     ensures { result ≡ started unit }
 {
     let fresh = Reader {
-        unit: unit,
+        unit,
         refusal: limits::DONE,
         place: 0,
         scanner: scan::begin(),
@@ -115,16 +115,14 @@ fn repeated(r: Reader) -> Fed
 fn finish_on(r: Reader) -> Fed
     ensures { result ≡ finished_on r }
 {
-    let scanner = r.scanner;
-    let mode = scanner.mode;
-    if scan::is_ended(mode) {
+    if scan::is_ended(r.scanner.mode) {
         return Fed {
             reader: r,
             given: Given::Done,
             used: 0,
         };
     }
-    let at = scanner.at;
+    let at = r.scanner.at;
     Fed {
         reader: command::latched(r, limits::BAD_COMMAND, at),
         given: Given::Refused(limits::BAD_COMMAND, at),

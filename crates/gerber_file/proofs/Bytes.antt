@@ -5,7 +5,7 @@ use mathlib.Core.Bool.{Bool, true, false, cond}
 use mathlib.Core.List.{List, [], ◌∷◌, ◌++◌}
 use mathlib.Core.Option.{Option, none, some}
 use native.Mathlib.Omega.{arith}
-use borrow.Author.Tests.{eq-eqb, lt-leb}
+use borrow.Author.Tests.{eq-eqb}
 use lib.ListN.{length, take, drop, length-append}
 use lib.IntN.{ℤ}
 use Rattle.limits.specs.Refusal.{number, command}
@@ -78,9 +78,7 @@ holds_done {done = done} {s = s} {q = q} h =
 -- the scanner counts each byte, while there are fewer than 2^64
 one_further : (z : Scanner) (b k : ℕ) → z.at ≡ k → k < 18446744073709551615 → (stepped z b).at ≡ suc k
 unfolding stepped
-one_further z b k e h =
-    let n : z.at + 1 ≡ suc k = omega arith in
-    ap (λ (t : Bool). cond t z.at (z.at + 1)) (lt-leb 18446744073709551615 z.at (omega arith)) ∙ n
+one_further z b k e h = omega arith
 
 module _ (t : Table) (unit space : ℕ) where
   abbrev draw : Sheet → Heard → Drawing
@@ -168,7 +166,7 @@ module _ (t : Table) (unit space : ℕ) where
   acted_alike Bad k l done s q sim h n f = record { strokes = refl; refusal = refl; before = holds_done sim; stand = none_left }
   acted_alike (Outside g) k l done s q sim h n f = f done s q sim h refl
   acted_alike (Whole c) k l done s q sim h n f = word_alike (word_of c s.reader.scanner.x s.reader.scanner.y) k l done s q sim h n f
-  acted_alike (Number y minus i v) k l done s q sim h n f = f done s q sim h refl
+  acted_alike (Number a sign i v) k l done s q sim h n f = f done s q sim h refl
   acted_alike (Inside p) k l done s q sim h n f = f done s q sim h refl
 
   -- ---- all bytes

@@ -112,7 +112,7 @@ acted_by_keeps : (m : Mode) (t : Table) (s : State) → Keeps s (acted_by m t s)
 acted_by_keeps Bad t s = refusing command s.reader.scanner.start s
 acted_by_keeps (Outside g) t s = unchanged s
 acted_by_keeps (Whole c) t s = word_keeps t s (word_of c s.reader.scanner.x s.reader.scanner.y)
-acted_by_keeps (Number y minus n v) t s = unchanged s
+acted_by_keeps (Number a sign n v) t s = unchanged s
 acted_by_keeps (Inside p) t s = unchanged s
 
 -- the state in which a byte is acted on

@@ -125,7 +125,7 @@ module _ (n : ℕ) (before : List ℤ) where
     acted_by_keeps Bad = refuses_keeps (number command) s.reader.scanner.start k
     acted_by_keeps (Outside g) = still_goes k
     acted_by_keeps (Whole c) = word_keeps (word_of c s.reader.scanner.x s.reader.scanner.y)
-    acted_by_keeps (Number y minus d v) = still_goes k
+    acted_by_keeps (Number a sign d v) = still_goes k
     acted_by_keeps (Inside p) = still_goes k
 
   step_keeps : (t : Table) (s : State) (b : ℕ) → Keeps s → StepKeeps (step_of t s b)

@@ -104,7 +104,7 @@ module _ (s : State) (h : Ordered s.reader.trace) where
   acting Bad t = refl
   acting (Outside g) t = (refl, h)
   acting (Whole c) t = obeying_word t (word_of c s.reader.scanner.x s.reader.scanner.y)
-  acting (Number y minus n v) t = (refl, h)
+  acting (Number a sign n v) t = (refl, h)
   acting (Inside p) t = (refl, h)
 
 -- the scanner is another then, and the trace the same

@@ -8,7 +8,6 @@ use mathlib.Core.List.{List, [], ◌∷◌}
 use mathlib.Core.Option.{Option, none, some}
 use lib.ListN.{length}
 use lib.IntN.{ℤ}
-use borrow.Author.Tests.{lt-leb}
 use Rattle.limits.specs.Refusal.{Refusal, path, coordinate, room, unless_at, ◌then◌}
 use Rattle.limits.specs.declared.Verdict.{Verdict}
 use Rattle.limits.specs.declared.Verdict.TheVariants.{Passed, Refused}
@@ -86,7 +85,7 @@ acted_at : (m : Mode) (t : Table) (s : State) → At s.reader.scanner.start s (a
 acted_at Bad t s = (refl, refl)
 acted_at (Outside g) t s = tt
 acted_at (Whole c) t s = word_at t s (word_of c s.reader.scanner.x s.reader.scanner.y)
-acted_at (Number y minus n v) t s = tt
+acted_at (Number a sign n v) t s = tt
 acted_at (Inside p) t s = tt
 
 step_at_lem : (t : Table) (s : State) (b : ℕ) → At (reading s b).reader.scanner.start (reading s b) (step_of t s b)
@@ -98,7 +97,7 @@ start_of_lem : (m : Mode) (at start : ℕ) → (start_of m at start ≡ start) �
 start_of_lem Bad at start = inl refl
 start_of_lem (Outside g) at start = inr refl
 start_of_lem (Whole c) at start = inr refl
-start_of_lem (Number y minus n v) at start = inl refl
+start_of_lem (Number a sign n v) at start = inl refl
 start_of_lem (Inside p) at start = inl refl
 
 stepped_start : (z : Scanner) (b : ℕ) → ((stepped z b).start ≡ z.start) ⊎ ((stepped z b).start ≡ z.at)
@@ -107,7 +106,7 @@ stepped_start z b = start_of_lem z.mode z.at z.start
 
 stepped_count : (z : Scanner) (b : ℕ) → z.at < 18446744073709551615 → (stepped z b).at ≡ z.at + 1
 unfolding stepped
-stepped_count z b h = ap (λ (t : Bool). cond t z.at (z.at + 1)) (lt-leb 18446744073709551615 z.at h)
+stepped_count z b h = omega arith
 
 -- ---- by n bytes: u is the reader that they lead to
 pub record Moved (z : Scanner) (n : ℕ) (u : Reader) : Type 0 where

@@ -1,17 +1,9 @@
 -- In every turn what is left of the chunk gives what the whole chunk gives.
-use Rattle.std.proofs.Common.{◌≡◌, ℕ, List, ℤ, length, sym, ap, ◌∙◌, arith}
-use Rattle.scan.specs.declared.Scanned.{Scanned}
-use Rattle.aperture.specs.declared.Table.{Table}
-use Rattle.gerber.specs.declared.Reader.{Reader}
+use Rattle.std.proofs.Common.{ℕ, List, ℤ, length, sym, ap, ◌∙◌, arith}
 use Rattle.gerber.specs.declared.Obeyed.{Obeyed}
-use Rattle.gerber.specs.Reader.{with_scanner, acted, shown, Told, Answered, answer}
+use Rattle.gerber.specs.Reader.{Answered, answer}
 use Rattle.gerber.proofs.Runs.{some_read, all_read, again, ended, used_up}
 use Rattle.gerber.proofs.chunk.feed_on.Goals as goal
-
--- what the command does, of the reader with the scanner that stopped
-told : (t : Table) (r : Reader) (p : List ℤ) (q : Scanned) {k : Reader} {o : Told} → o ≡ shown (acted t (record { reader = k; path = p })) →
-    k ≡ with_scanner r q.scanner → o ≡ shown (acted t (record { reader = with_scanner r q.scanner; path = p }))
-told t r p q e f = e ∙ ap (λ (k : Reader). shown (acted t (record { reader = k; path = p }))) f
 
 abbrev with_used : Obeyed → List ℤ → ℕ → Answered
 with_used o p n = record { fed = record { reader = o.reader; given = o.given; used = n }; entries = p }
@@ -22,7 +14,7 @@ returns-then-is_end c =
     let chunk = c.args.chunk.now in
     ap (λ (n : ℕ). with_used c.act-one.result c.act-one.new.path n) c.used_of.ensures ∙
     ended c.args.t l.reader l.path chunk l.i c.loop-i-test.true c.run-scanned.ensures
-    (told c.args.t l.reader l.path c.run-scanned.result c.act-one.ensures c.with_scanner.ensures)
+    c.act-one.ensures
     (sym c.if-is_end.ensures)
     (length chunk) ∙
     ap (answer (length chunk)) l.invariant.1
@@ -38,7 +30,7 @@ loop-i-preserved c =
     let chunk = c.args.chunk.now in (
       all_read c.args.t l.reader l.path chunk l.i c.loop-i-test.true c.run-scanned.ensures,
       again c.args.t l.reader l.path chunk l.i c.loop-i-test.true c.run-scanned.ensures
-          (told c.args.t l.reader l.path c.run-scanned.result c.act-one.ensures c.with_scanner.ensures)
+          c.act-one.ensures
           (sym c.if-is_end.ensures) ∙
           l.invariant.1,
     )

@@ -1,5 +1,5 @@
 -- A table that does not hold the aperture refuses; otherwise the stroke ends, and the aperture is the new one.
-use Rattle.std.proofs.Common.{sym, ap, ◌∙◌}
+use Rattle.std.proofs.Common.{sym, ap}
 use Rattle.aperture.proofs.Theorems.{looked_held, looked_refused}
 use Rattle.trace.specs.declared.Ended.{Ended}
 use Rattle.gerber.specs.Reader.{with_trace}
@@ -11,6 +11,6 @@ returns-in_default c = λ p. not_held c.args.t c.args.r.scanner.start c.args.n c
 
 pub returns : goal.returns
 returns c =
-    let next = c.with_trace-next.ensures ∙ ap (λ (q : Ended). with_trace c.args.r c.args.n q.trace) c.end-ended.ensures in
+    let next = ap (λ (q : Ended). with_trace c.args.r c.args.n q.trace) c.end.ensures in
     λ p. held c.args.t c.args.r.scanner.start c.args.n c.args.r p (looked_held c.args.t c.args.n c.in-At.field-0 (sym c.in-At.ensures)).0
     (closes_at c.args.r p next (c.close.ensures p))
