@@ -15,9 +15,9 @@ use Rattle.chunks.specs.Machine.{goes, gives, fails, Called, more, gave, failed,
 use Rattle.gerber.specs.Reader.{State, Stroke, Fault, Step, Answered, step_of, answer, repeated, feeds}
 use Rattle.gerber_file.proofs.Keeps.{CallKeeps, call_keeps}
 use Rattle.gerber_file.proofs.Sessions.{state_of, feeds_calls}
-use Rattle.gather.specs.declared.Handed.{Handed}
-use Rattle.gather.specs.declared.Handed.TheVariants as handed·
-use Rattle.gather.specs.Gather.{handed_of, Notes, noted, all_noted, Gathered, together, kept_of, gathered, goes_on}
+use Rattle.gerber.specs.declared.Given.{Given}
+use Rattle.gerber.specs.declared.Given.TheVariants.{More, Stroke as StrokeOf, Done, Refused}
+use Rattle.gather.specs.Gather.{Notes, noted, all_noted, Gathered, together, kept_of, gathered, goes_on}
 
 abbrev Call : Type 0
 Call = Called State Stroke Fault
@@ -136,26 +136,23 @@ module _ (t : Table) where
       go false e = from_off s n [] e
 
   -- ---- a turn of the loop of `gather`: what is answered to the bytes l, and then the rest of them
-  abbrev by_handed : Answered → Notes → List ℕ → Handed → Gathered
-  by_handed a n l handed·.Nothing = together (state_of a) n
-  by_handed a n l (handed·.Stroke x first) = goes_on t (together (state_of a) (noted n (record { aperture = x; first = first; length = 0 }))) (drop a.fed.used l)
+  abbrev by_given : Answered → Notes → List ℕ → Given → Gathered
+  by_given a n l More = together (state_of a) n
+  by_given a n l (StrokeOf x first k) = goes_on t (together (state_of a) (noted n (record { aperture = x; first = first; length = k }))) (drop a.fed.used l)
+  by_given a n l Done = together (state_of a) n
+  by_given a n l (Refused k place) = together (state_of a) n
 
   abbrev turned : Notes → List ℕ → Answered → Gathered
-  turned n l a = by_handed a n l (handed_of a.fed.given)
+  turned n l a = by_given a n l a.fed.given
 
   -- a reader that holds a refusal repeats it
   feeds_refused : (s : State) (l : List ℕ) → eqb s.reader.refusal 0 ≡ false → feeds s.reader t l s.path ≡ record { fed = repeated s.reader; entries = s.path }
   unfolding feeds
   feeds_refused s l e = ap (λ (b : Bool). cond b (answer (length l) (call (step_of t) s l)) (record { fed = repeated s.reader; entries = s.path })) e
 
-  -- no note has a stroke's length
-  any_length : (n : Notes) (e : Stroke) → noted n e ≡ noted n (record { aperture = e.aperture; first = e.first; length = 0 })
-  unfolding noted
-  any_length n e = refl
-
   answer_turned : (n : Notes) (l : List ℕ) (c : Call) → CallKeeps c → called_on n l c ≡ turned n l (answer (length l) c)
   answer_turned n l (more u) k = refl
-  answer_turned n l (gave e u m) k = sym (from_on u (noted n e) (drop m l) k) ∙ ap (λ (z : Notes). goes_on t (together u z) (drop m l)) (any_length n e)
+  answer_turned n l (gave e u m) k = sym (from_on u (noted n e) (drop m l) k)
   answer_turned n l (failed f u) k = refl
 
   turn : (s : State) (n : Notes) (l : List ℕ) → goes_on t (together s n) l ≡ turned n l (feeds s.reader t l s.path)
@@ -167,21 +164,30 @@ module _ (t : Table) where
           from_on s n l h ∙ reading_calls l s n ∙ answer_turned n l (call (step_of t) s l) (call_keeps t s l h) ∙ sym (ap (turned n l) (feeds_calls s.reader t l s.path h))
       go false e = from_off s n l e ∙ sym (ap (turned n l) (feeds_refused s l e))
 
-  used_of_call : (n : ℕ) (c : Call) (x first : ℕ) → Within n c → handed_of (answer n c).fed.given ≡ handed·.Stroke x first → (1 ≤ (answer n c).fed.used) × ((answer n c).fed.used ≤ n)
-  used_of_call n (more u) x first h e = absurd (let z : ◌≡◌ {A = ℕ} 0 1 = cc in omega arith)
-  used_of_call n (gave w u m) x first h e = h
-  used_of_call n (failed f u) x first h e = absurd (let z : ◌≡◌ {A = ℕ} 0 1 = cc in omega arith)
+  used_of_call : (n : ℕ) (c : Call) (x first k : ℕ) → Within n c → (answer n c).fed.given ≡ StrokeOf x first k → (1 ≤ (answer n c).fed.used) × ((answer n c).fed.used ≤ n)
+  used_of_call n (more u) x first k h e = absurd (let z : ◌≡◌ {A = ℕ} 0 1 = cc in omega arith)
+  used_of_call n (gave w u m) x first k h e = h
+  used_of_call n (failed f u) x first k h e = absurd (let z : ◌≡◌ {A = ℕ} 0 1 = cc in omega arith)
 
   -- a is what `gerber::feed` answers
   module _ (s : State) (n : Notes) (l : List ℕ) {a : Answered} (f : a ≡ feeds s.reader t l s.path) where
-    -- nothing is given: the bytes are used up, or there is a refusal
-    pub turn_ends : handed_of a.fed.given ≡ handed·.Nothing → together (state_of a) n ≡ goes_on t (together s n) l
-    turn_ends e = sym (turn s n l ∙ sym (ap (turned n l) f) ∙ ap (by_handed a n l) e)
+    by_answer : {g : Given} → a.fed.given ≡ g → by_given a n l g ≡ goes_on t (together s n) l
+    by_answer e = sym (turn s n l ∙ sym (ap (turned n l) f) ∙ ap (by_given a n l) e)
 
-    module _ (x first : ℕ) (e : handed_of a.fed.given ≡ handed·.Stroke x first) where
+    -- nothing is given: the bytes are used up, or there is a refusal
+    pub turn_ends : ((x first k : ℕ) → ¬ (a.fed.given ≡ StrokeOf x first k)) → together (state_of a) n ≡ goes_on t (together s n) l
+    turn_ends none_given = go a.fed.given refl
+      where
+        go : (g : Given) → a.fed.given ≡ g → together (state_of a) n ≡ goes_on t (together s n) l
+        go More e = by_answer e
+        go (StrokeOf x first k) e = absurd (none_given x first k e)
+        go Done e = by_answer e
+        go (Refused k place) e = by_answer e
+
+    module _ (x first k : ℕ) (e : a.fed.given ≡ StrokeOf x first k) where
       -- a stroke is given, and noted: the rest is read again
-      pub turn_goes_on : goes_on t (together (state_of a) (noted n (record { aperture = x; first = first; length = 0 }))) (drop a.fed.used l) ≡ goes_on t (together s n) l
-      turn_goes_on = sym (turn s n l ∙ sym (ap (turned n l) f) ∙ ap (by_handed a n l) e)
+      pub turn_goes_on : goes_on t (together (state_of a) (noted n (record { aperture = x; first = first; length = k }))) (drop a.fed.used l) ≡ goes_on t (together s n) l
+      turn_goes_on = by_answer e
 
       -- with a byte less at least
       pub turn_uses : (1 ≤ a.fed.used) × (a.fed.used ≤ length l)
@@ -190,8 +196,8 @@ module _ (t : Table) where
           go : (b : Bool) → eqb s.reader.refusal 0 ≡ b → (1 ≤ a.fed.used) × (a.fed.used ≤ length l)
           go true q =
               let h = f ∙ feeds_calls s.reader t l s.path (eqb-true s.reader.refusal 0 q) in
-              subst (λ (z : Answered). handed_of z.fed.given ≡ handed·.Stroke x first → (1 ≤ z.fed.used) × (z.fed.used ≤ length l)) (sym h)
-              (used_of_call (length l) (call (step_of t) s l) x first (call_within l s)) e
+              subst (λ (z : Answered). z.fed.given ≡ StrokeOf x first k → (1 ≤ z.fed.used) × (z.fed.used ≤ length l)) (sym h)
+              (used_of_call (length l) (call (step_of t) s l) x first k (call_within l s)) e
           go false q =
               let h = f ∙ feeds_refused s l q in
-              absurd (let g = ap (λ (z : Answered). handed_of z.fed.given) h in let z : ◌≡◌ {A = ℕ} 0 1 = cc in omega arith)
+              absurd (let g = ap (λ (z : Answered). z.fed.given) h in let z : ◌≡◌ {A = ℕ} 0 1 = cc in omega arith)

@@ -9,8 +9,6 @@ use Rattle.gerber.specs.declared.Given as gerber·
 use Rattle.gerber.specs.declared.Given.TheVariants as given·
 use Rattle.gerber.specs.Reader.{State, Stroke, Fault, started, step_of, finished}
 use Rattle.gather.specs.declared.Gathering.{Gathering}
-use Rattle.gather.specs.declared.Handed.{Handed}
-use Rattle.gather.specs.declared.Handed.TheVariants as handed·
 use Rattle.gather.specs.declared.Finished.{Finished}
 use Rattle.gather.specs.declared.Finished.TheVariants.{Done, Refused}
 
@@ -19,13 +17,6 @@ abbrev pub begun : ℕ → Gathering
 begun unit = record { reader = started unit; count = 0; lost = false }
 
 -- ---- a stroke
--- of what a call gives: its aperture and its first entry, where it is a stroke
-abbrev pub handed_of : gerber·.Given → Handed
-handed_of given·.More = handed·.Nothing
-handed_of (given·.Stroke a first n) = handed·.Stroke a first
-handed_of given·.Done = handed·.Nothing
-handed_of (given·.Refused n place) = handed·.Nothing
-
 -- the lists, how many strokes stand in them, and whether a stroke found no place
 pub record Notes : Type 0 where
   pub apertures : List ℕ

@@ -9,12 +9,11 @@
 // from starts[k] to starts[k + 1].
 #![tactic(auto)]
 
-ghost use Rattle.std.specs.Prelude.{ℕ, ◌≡◌, ◌&&◌, List, ltb, ℤ};
-ghost use Rattle.gather.specs.Gather.{begun, handed_of, notes_of, noted, together, gathered, verdict_of, is_complete, closed, finishing};
+ghost use Rattle.std.specs.Prelude.{ℕ, ◌≡◌, List, ℤ};
+ghost use Rattle.gather.specs.Gather.{begun, notes_of, noted, together, gathered, is_complete, closed, finishing};
 
 use aperture::Table;
 use gerber::{Given, Reader};
-use limits::Verdict;
 
 // count: how many strokes have been noted. lost: a stroke found no place in the lists.
 #[derive(Clone, Copy)]
@@ -22,13 +21,6 @@ pub struct Gathering {
     pub reader: Reader,
     pub count: usize,
     pub lost: bool,
-}
-
-// What is noted of a call's answer. Stroke: its aperture, and its first entry in the path.
-#[derive(Clone, Copy)]
-enum Handed {
-    Nothing,
-    Stroke(u64, usize),
 }
 
 // Refused: the number, and the byte's place in the file.
@@ -63,46 +55,20 @@ pub fn gather(
         ≡ gathered g table chunk.now path.old apertures.old starts.old }
 {
     let mut gathering = g;
-    let mut i = 0;
-    while i < chunk.len() {
-        let reader = gathering.reader;
-        let fed = gerber::feed(reader, table, &chunk[i..], path);
-        let now = fed.reader;
-        let given = fed.given;
-        let used = fed.used;
-        let after = with_reader(gathering, now);
-        let handed = handed_of(given);
-        let Handed::Stroke(aperture, first) = handed else {
+    let mut rest = chunk;
+    while !rest.is_empty() {
+        let fed = gerber::feed(gathering.reader, table, rest, path);
+        let after = Gathering {
+            reader: fed.reader,
+            ..gathering
+        };
+        let Given::Stroke(aperture, first, _) = fed.given else {
             return after;
         };
-        let next = note(after, aperture, first, apertures, starts);
-        gathering = next;
-        i += used;
+        gathering = note(after, aperture, first, apertures, starts);
+        rest = &rest[fed.used..];
     }
     gathering
-}
-
-// The stroke that a call gives, if it gives one.
-fn handed_of(given: Given) -> Handed
-    ensures { result ≡ handed_of given }
-{
-    match given {
-        Given::More => Handed::Nothing,
-        Given::Stroke(aperture, first, _) => Handed::Stroke(aperture, first),
-        Given::Done => Handed::Nothing,
-        Given::Refused(_, _) => Handed::Nothing,
-    }
-}
-
-// The reader has read on.
-fn with_reader(g: Gathering, reader: Reader) -> Gathering
-    ensures { result ≡ record { reader = reader; count = g.count; lost = g.lost } }
-{
-    Gathering {
-        reader: reader,
-        count: g.count,
-        lost: g.lost,
-    }
 }
 
 // Puts a stroke's aperture and its first entry behind those noted before, where both lists have a place. The
@@ -118,29 +84,13 @@ fn note(
     ensures { (p : List ℤ) (n : ℕ) → record { gathering = result; path = p; apertures = apertures.new; starts = starts.new }
         ≡ together (record { reader = g.reader; path = p }) (noted (notes_of g apertures.old starts.old) (record { aperture = aperture; first = first; length = n })) }
 {
-    let reader = g.reader;
     let k = g.count;
-    if !has_place(k, apertures.len(), starts.len()) {
-        return Gathering {
-            reader: reader,
-            count: k,
-            lost: true,
-        };
+    if apertures.len() <= k || starts.len() <= k {
+        return Gathering { lost: true, ..g };
     }
     apertures[k] = aperture;
     starts[k] = first;
-    Gathering {
-        reader: reader,
-        count: k + 1,
-        lost: g.lost,
-    }
-}
-
-// Whether both lists have a place k.
-fn has_place(k: usize, apertures: usize, starts: usize) -> bool
-    ensures { result ≡ ltb k apertures && ltb k starts }
-{
-    k < apertures && k < starts
+    Gathering { count: k + 1, ..g }
 }
 
 // The file has ended: all is well where the reader says so and every stroke is noted, and then the end of the
@@ -149,25 +99,9 @@ fn has_place(k: usize, apertures: usize, starts: usize) -> bool
 pub fn finish(g: Gathering, starts: &mut [usize]) -> Finished
     ensures { record { answer = result; starts = starts.new } ≡ finishing g starts.old }
 {
-    let reader = g.reader;
-    let ended = gerber::finish(reader);
-    let given = ended.given;
-    let verdict = verdict_of(given);
-    let Verdict::Refused(number, place) = verdict else {
-        return close(g, starts);
-    };
-    Finished::Refused(number, place)
-}
-
-// What the reader has against the file.
-fn verdict_of(given: Given) -> Verdict
-    ensures { result ≡ verdict_of given }
-{
-    match given {
-        Given::More => Verdict::Passed,
-        Given::Stroke(_, _, _) => Verdict::Passed,
-        Given::Done => Verdict::Passed,
-        Given::Refused(number, place) => Verdict::Refused(number, place),
+    match gerber::finish(g.reader).given {
+        Given::Refused(number, place) => Finished::Refused(number, place),
+        _ => close(g, starts),
     }
 }
 
@@ -175,14 +109,10 @@ fn verdict_of(given: Given) -> Verdict
 fn close(g: Gathering, starts: &mut [usize]) -> Finished
     ensures { record { answer = result; starts = starts.new } ≡ closed g starts.old }
 {
-    let reader = g.reader;
-    let scanner = reader.scanner;
-    let trace = reader.trace;
-    let k = g.count;
     if !is_complete(g, starts.len()) {
-        return Finished::Refused(limits::NO_ROOM, scanner.at);
+        return Finished::Refused(limits::NO_ROOM, g.reader.scanner.at);
     }
-    starts[k] = trace.first;
+    starts[g.count] = g.reader.trace.first;
     Finished::Done
 }
 

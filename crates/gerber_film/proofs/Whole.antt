@@ -31,7 +31,6 @@ use Rattle.gerber_file.proofs.Exact.{started_fresh, start, all_alike}
 use Rattle.gather.specs.declared.Gathering.{Gathering}
 use Rattle.gather.specs.declared.Finished.TheVariants.{Done, Refused}
 use Rattle.gather.specs.Gather.{Notes, all_noted, Gathered, kept_of, gathered, Ended, is_complete, closed, verdict_of, finishing_by, finishing}
-use Rattle.gather.proofs.Answers.{complete}
 use Rattle.gather.proofs.Lengths.{read_as_long}
 use Rattle.gerber_film.specs.File.{Asked, end_of, drawn_from, left, sentences, no_stroke}
 use Rattle.gerber_film.specs.Theorems.{NoneLost, NothingLost, SameStrokes, FileStrokes}
@@ -67,7 +66,7 @@ module _ (g : Gathering) (starts : List ℕ) where
   unfolding finishing
   all_done e h k =
       let c : is_complete g (length starts) ≡ true = and_true (not g.lost) (ltb g.count (length starts)) (ap not e) (lt-ltb g.count (length starts) h) in
-      ap (λ (v : Verdict). (finishing_by v g starts).answer) k ∙ ap (λ (z : Ended). z.answer) (sym (complete g starts c))
+      ap (λ (v : Verdict). (finishing_by v g starts).answer) k ∙ rw c refl
 
 -- ---- a file
 module _ (unit : ℕ) (settings l : List ℕ) (p : List ℤ) (a s : List ℕ) (h : Asked unit l p a s) where
