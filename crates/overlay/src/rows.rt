@@ -23,8 +23,6 @@ fn read_rows(film: Film, told: Stderr, space: &mut [u8], offset: u64) -> Result<
 
 // Puts the rows of a block, `width` bytes each, on the page.
 fn put_block(
-    to: Stdout,
-    told: Stderr,
     mut overlay: Overlay,
     width: usize,
     a: &[u8],
@@ -36,9 +34,9 @@ fn put_block(
 {
     for (x, y) in a.chunks_exact(width).zip(b.chunks_exact(width)) {
         let Some(count) = compare::next_row(&mut overlay, x, y, out) else {
-            return Err(fault(told));
+            return Err(fault(page.told));
         };
-        page.put(to, told, out, count)?;
+        page.put(out, count)?;
     }
     Ok(())
 }
@@ -54,14 +52,13 @@ fn rows_of_block(width: usize, left: u64) -> usize
 
 // Puts all rows of two films on the page, which is written where it is full.
 fn put_rows(
-    to: Stdout,
-    told: Stderr,
     first: Film,
     second: Film,
     sizes: Sizes,
     out: &mut [u8],
     page: &mut Page,
 ) -> Result<(), Told> {
+    let told = page.told;
     let columns = sizes.columns;
     let width = bits::length_of(columns as usize);
     if width < 1 {
@@ -80,16 +77,7 @@ fn put_rows(
         read_rows(first, told, &mut a[..length], offset)?;
         read_rows(second, told, &mut b[..length], offset)?;
         let overlay = Overlay { columns, left };
-        put_block(
-            to,
-            told,
-            overlay,
-            width,
-            &a[..length],
-            &b[..length],
-            out,
-            page,
-        )?;
+        put_block(overlay, width, &a[..length], &b[..length], out, page)?;
         left -= count as u64;
         offset += length as u64;
     }
@@ -106,8 +94,8 @@ pub fn tell_rows(
     sizes: Sizes,
     out: &mut [u8],
 ) -> Result<(), Told> {
-    let mut page = Page::new();
-    let all = put_rows(to, told, first, second, sizes, out, &mut page);
-    page.write(to, told)?;
+    let mut page = Page::new(to, told);
+    let all = put_rows(first, second, sizes, out, &mut page);
+    page.write()?;
     all
 }
