@@ -5,8 +5,6 @@
 ghost use Rattle.std.specs.Prelude.{◌≡◌};
 ghost use Rattle.reach.specs.Reach.{least_y, greatest_y};
 
-use integers::{max, min};
-
 // Where the first y of a path stands: its entries are x, y, x, y, ..
 const FIRST_Y: usize = 1;
 
@@ -14,23 +12,19 @@ const FIRST_Y: usize = 1;
 pub fn least_y(path: &[i32]) -> i64
     ensures { result ≡ least_y path.now }
 {
-    let mut y = limits::COORDINATE_MAX as i64;
-    let mut i = FIRST_Y;
-    while i < path.len() {
-        y = min(y, path[i] as i64);
-        i += 2;
-    }
-    y
+    let none = i64::from(limits::COORDINATE_MAX);
+    path.iter()
+        .skip(FIRST_Y)
+        .step_by(2)
+        .fold(none, |least, y| least.min(i64::from(*y)))
 }
 
 pub fn greatest_y(path: &[i32]) -> i64
     ensures { result ≡ greatest_y path.now }
 {
-    let mut y = limits::COORDINATE_MIN as i64;
-    let mut i = FIRST_Y;
-    while i < path.len() {
-        y = max(y, path[i] as i64);
-        i += 2;
-    }
-    y
+    let none = i64::from(limits::COORDINATE_MIN);
+    path.iter()
+        .skip(FIRST_Y)
+        .step_by(2)
+        .fold(none, |greatest, y| greatest.max(i64::from(*y)))
 }

@@ -1,21 +1,23 @@
--- The maximum so far; one entry in two is a y.
-use Rattle.std.proofs.Common.{pos, arith, w32, w64, get_or, ℤ, FitsSigned, rules}
-use Rattle.integers.proofs.Machine.{par, cast, var, bound}
-use Rattle.integers.proofs.Words.{max_is}
-use Rattle.reach.proofs.Pass.{passed_none, passed_next, passed_all}
+-- The iterator gives every other entry, which are the y's, and the closure takes two of them together.
+use Rattle.std.proofs.Common.{◌≡◌, ◌∙◌, Iter, ap, refl, rules, ℤ, pos, neg_ℤ, w64, to_z, of_z, fold}
+use Rattle.std.specs.Int.{int_max}
+use denote.Ref.{Bor}
+use Rattle.integers.specs.Compare.{max_z}
+use Rattle.integers.proofs.Greater.{int_max_is}
+use Rattle.integers.proofs.Machine.{read_back}
+use Rattle.limits.specs.Sizes.{coordinate_max}
+use Rattle.reach.proofs.Pass.{chained}
 use Rattle.reach.proofs.Heights.{greatest_together}
 use Rattle.reach.proofs.greatest_y.Goals as goal
 
-pub loop-i-init : goal.loop-i-init
-loop-i-init c = passed_none greatest_together c.args.path.now (record { abs = omega arith })
-
-pub loop-i-preserved : goal.loop-i-preserved
-loop-i-preserved c =
-    let z : ℤ = get_or c.args.path.now c.loop-i.i (pos 0) in
-    let small : FitsSigned w32 z = search rules in
-    let entry = cast (par {w = w32} small) w64 tt in
-    let p = max_is (var c.loop-i.auto.y c.loop-i.invariant.number) entry c.max-y.ensures in
-    passed_next greatest_together c.loop-i.invariant c.loop-i-test.true p.reads (bound p)
-
 pub returns : goal.returns
-returns c = passed_all greatest_together c.loop-i.invariant c.loop-i-test.false
+returns c =
+    let whole = c.fold.ensures.runs in
+    let steps = c.step_by.ensures.runs whole.0 whole.0.seen whole.1 in
+    let skips = c.skip.ensures.runs steps.0 steps.0.seen steps.1 in
+    let each = c.iter.ensures.runs skips.0 skips.0.seen in
+    let entries = ap (λ (i : Iter ℤ). i.rest.now) skips.1 ∙ c.iter.ensures.rest in
+    let folded = whole.3 (λ (b : ℤ) (y : Bor ℤ). max_z b y.now) (λ x y r f' called. let e : r ≡ int_max x y.now = search rules in (refl, e ∙ int_max_is x y.now)) in
+    let none : to_z w64 (of_z w64 c.from-none.result) ≡ neg_ℤ (pos coordinate_max) = search rules in
+    read_back w64 c.fold.type_inv ∙ folded ∙ ap (λ (z : ℤ). fold (λ (b : ℤ) (y : Bor ℤ). max_z b y.now) z whole.0.items) none
+    ∙ chained whole.0 steps.0 skips.0 c.args.path.now _ steps.2 skips.2 each entries whole.2 greatest_together
