@@ -5,7 +5,7 @@ use mathlib.Core.Path.{◌≡◌, refl, sym, ap, ap₂, ◌∙◌, subst}
 use mathlib.Core.Bool.{Bool, true, false, not, cond}
 use mathlib.Core.List.{List, [], ◌∷◌, ◌++◌}
 use mathlib.Core.Option.{Option}
-use borrow.Author.Tests.{lt-ltb, le-leb}
+use borrow.Author.Tests.{lt-ltb}
 use lib.Dec.{ltb}
 use lib.ListN.{length, get_or, take, set}
 use lib.Seq.{take-suc-set, get_or-take}
@@ -17,7 +17,7 @@ use Rattle.aperture.specs.declared.Table.{Table}
 use Rattle.aperture.specs.Table.{is_held}
 use Rattle.setting_list.specs.Settings.{table_of}
 use Rattle.drawing.specs.Strokes.{Drawing, path_of}
-use Rattle.drawing.proofs.Taken.{spans}
+use Rattle.drawing.proofs.Taken.{path_here}
 use Rattle.language.specs.Grammar.{first, Placed, Reads, said}
 use Rattle.language.proofs.Theorems.{each_file, heard_exactly}
 use Rattle.chunks.specs.Machine as chunks·
@@ -144,7 +144,7 @@ module _ (unit : ℕ) (settings l : List ℕ) (p : List ℤ) (a s : List ℕ) (h
         let from = get_or (marks 0 ds) k 0 in
         let to = get_or (marks 0 ds) (suc k) 0 in
         let f : to ≡ get_or starts (k + 1) 0 = ap (λ (i : ℕ). get_or (marks 0 ds) i 0) next ∙ start_at (k + 1) (omega (arith, m)) in
-        sym (spans starts all.state.path k from to (start_at k (omega (arith, m))) f b.ordered (le-leb to (length all.state.path) b.within)).path ∙ b.path
+        sym (path_here starts all.state.path k from to (start_at k (omega (arith, m))) f b.ordered b.within) ∙ b.path
 
     same_strokes : (d : Drawing) → d.apertures ≡ apertures_of (all_handed ds) → d.starts ≡ starts → d.entries ≡ all.state.path → SameStrokes d ds
     same_strokes d ea es ep = record {
