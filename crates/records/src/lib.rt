@@ -28,7 +28,11 @@ const RUNS_MAX: usize = limits::ENTRIES_MAX / 2;
 fn entries(room: usize) -> usize
     ensures { result ≡ entries room }
 {
-    if room <= RUNS_MAX { 2 * room } else { limits::ENTRIES_MAX }
+    if room <= RUNS_MAX {
+        2 * room
+    } else {
+        limits::ENTRIES_MAX
+    }
 }
 
 // The plain answer for a list of so many records. The list of numbers is the caller's, so that it is
