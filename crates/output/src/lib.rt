@@ -24,9 +24,8 @@ fn rows_of(columns: u64, left: u64) -> u64
     ensures { result ≡ rows_of (packed_length columns) left }
 {
     let width = bits::length_of(columns as usize);
-    let fit = BAND / integers::max_usize(width, 1);
-    let most = integers::max_usize(fit, 1) as u64;
-    integers::min_u64(left, most)
+    let most = (BAND / width.max(1)).max(1);
+    left.min(most as u64)
 }
 
 // Puts the next band, where so many rows from row `first` on are left: the highest of them.
