@@ -15,7 +15,6 @@ ghost use Rattle.integers.specs.Bound.{Abs};
 ghost use Rattle.flanks.specs.Flanks.{ordered, held_of, idle, nowhere, begun, inside_of, climbed, risen, count_to, cut_at};
 
 use edge::Edge;
-use integers::min_usize;
 use ties::below;
 
 mod turn;
@@ -80,7 +79,7 @@ fn ordered(ax: i32, ay: i32, bx: i32, by: i32) -> Ends
 fn held<'a>(count: usize, xs: &'a [i8], ys: &'a [i8]) -> usize
     ensures { result ≡ held_of count xs.now ys.now }
 {
-    min_usize(count, min_usize(xs.len(), ys.len()))
+    count.min(xs.len().min(ys.len()))
 }
 
 fn idle(low: i64, tangent: usize) -> Flank
@@ -90,7 +89,7 @@ fn idle(low: i64, tangent: usize) -> Flank
         edge: edge::nowhere(),
         top: low,
         corner: 0,
-        tangent: tangent,
+        tangent,
     }
 }
 
@@ -127,16 +126,18 @@ pub fn begin<'a>(
 {
     let n = held(count, xs, ys);
     let ends = ordered(ax, ay, bx, by);
-    let u = ends.ux as i64 - ends.lx as i64;
-    let v = ends.uy as i64 - ends.ly as i64;
+    let lx = i64::from(ends.lx);
+    let ly = i64::from(ends.ly);
+    let ux = i64::from(ends.ux);
+    let uy = i64::from(ends.uy);
     let depth = 8 * walk::at(ys, 0);
-    let low = ends.ly as i64 + depth;
-    let high = ends.uy as i64 - depth;
-    let tangents = walk::tangents(xs, ys, n, u, v);
+    let low = ly + depth;
+    let high = uy - depth;
+    let tangents = walk::tangents(xs, ys, n, ux - lx, uy - ly);
     Flanks {
-        ends: ends,
-        low: low,
-        high: high,
+        ends,
+        low,
+        high,
         left: idle(low, tangents.left),
         right: idle(low, tangents.right),
     }
@@ -148,7 +149,7 @@ fn height(row: u16) -> i64
     ensures same { result ≡ pos 16 *ℤ pos row }
     ensures small { Abs result (2 ^ 20) }
 {
-    ((row as u64) << 4) as i64
+    (u64::from(row) << 4) as i64
 }
 
 // Whether a row meets the sweep.
@@ -172,16 +173,9 @@ fn turning<'a>(f: Flanks, xs: &'a [i8], ys: &'a [i8], count: usize, h: i64) -> F
         } }
 {
     let n = held(count, xs, ys);
-    let ends = f.ends;
-    let left = turn::climb(f.left, xs, ys, n, true, ends, h);
-    let right = turn::climb(f.right, xs, ys, n, false, ends, h);
-    Flanks {
-        ends: ends,
-        low: f.low,
-        high: f.high,
-        left: left,
-        right: right,
-    }
+    let left = turn::climb(f.left, xs, ys, n, true, f.ends, h);
+    let right = turn::climb(f.right, xs, ys, n, false, f.ends, h);
+    Flanks { left, right, ..f }
 }
 
 // The flanks in the given row: their first, or one row up from the last. They wait where it lies
@@ -195,13 +189,10 @@ pub fn rise<'a>(f: Flanks, xs: &'a [i8], ys: &'a [i8], count: usize, row: u16) -
     }
     let h = height(row);
     if below(h, f.left.top) && below(h, f.right.top) {
-        let ends = f.ends;
         return Flanks {
-            ends: ends,
-            low: f.low,
-            high: f.high,
             left: turn::stay(f.left),
             right: turn::stay(f.right),
+            ..f
         };
     }
     turning(f, xs, ys, count, h)
@@ -214,7 +205,7 @@ pub fn count_to(columns: u16, z: i64) -> u16
     if z < 0 {
         return 0;
     }
-    if z < columns as i64 {
+    if z < i64::from(columns) {
         return (z + 1) as u16;
     }
     columns

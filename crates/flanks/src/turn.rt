@@ -6,7 +6,6 @@ ghost use Rattle.flanks.specs.Flanks.{on_pen, turned, climbed};
 
 use crate::walk::{at, place_of, walk};
 use crate::{Ends, Flank};
-use integers::min;
 use ties::below;
 
 // On the pen's edge at the end (ex, ey) that the height h meets. The walk goes on from corner k.
@@ -35,9 +34,9 @@ fn on_pen<'a>(
     let top = ey + 8 * at(ys, q);
     Flank {
         edge: edge::place(px, py, qx, top, h),
-        top: top,
-        corner: corner,
-        tangent: tangent,
+        top,
+        corner,
+        tangent,
     }
 }
 
@@ -50,26 +49,22 @@ fn turned<'a>(f: Flank, xs: &'a [i8], ys: &'a [i8], n: usize, left: bool, e: End
     let t = f.tangent;
     let tx = 8 * at(xs, t);
     let ty = 8 * at(ys, t);
-    let lx = e.lx as i64;
-    let ly = e.ly as i64;
-    let ux = e.ux as i64;
-    let uy = e.uy as i64;
+    let lx = i64::from(e.lx);
+    let ly = i64::from(e.ly);
+    let ux = i64::from(e.ux);
+    let uy = i64::from(e.uy);
     if below(h, ly + ty) {
         let lower = on_pen(xs, ys, n, left, t, f.corner, lx, ly, h);
-        let edge = lower.edge;
         return Flank {
-            edge: edge,
-            top: min(lower.top, ly + ty),
-            corner: lower.corner,
-            tangent: t,
+            top: lower.top.min(ly + ty),
+            ..lower
         };
     }
     if below(h, uy + ty) {
         return Flank {
             edge: edge::place(lx + tx, ly + ty, ux + tx, uy + ty, h),
             top: uy + ty,
-            corner: f.corner,
-            tangent: t,
+            ..f
         };
     }
     on_pen(xs, ys, n, left, t, f.corner, ux, uy, h)
@@ -81,9 +76,7 @@ pub fn stay(f: Flank) -> Flank
 {
     Flank {
         edge: edge::raise(f.edge),
-        top: f.top,
-        corner: f.corner,
-        tangent: f.tangent,
+        ..f
     }
 }
 

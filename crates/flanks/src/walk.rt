@@ -3,7 +3,6 @@ ghost use Rattle.std.specs.Prelude.{◌≡◌, ◌-◌, ◌≤◌, ◌^◌, get_
 ghost use Rattle.integers.specs.Bound.{Abs};
 ghost use Rattle.flanks.specs.Walk.{place_of, height_at, walked, turn_at, tangent_of};
 
-use integers::wide;
 use ties::below;
 
 // A coordinate by its place; 0 past the end.
@@ -11,10 +10,7 @@ pub fn at(zs: &[i8], i: usize) -> i64
     ensures same { result ≡ get_or zs.now i (pos 0) }
     ensures small { Abs result 128 }
 {
-    if i < zs.len() {
-        return wide(zs[i]);
-    }
-    0
+    zs.get(i).map_or(0, |z| i64::from(*z))
 }
 
 // The place of corner k of a side, of n corners: up the right side as they come, and up the left one
@@ -22,16 +18,11 @@ pub fn at(zs: &[i8], i: usize) -> i64
 pub fn place_of(k: usize, n: usize, left: bool) -> usize
     ensures { result ≡ place_of k n left }
 {
-    if !left {
-        return k;
+    if left && 0 < k {
+        n.saturating_sub(k)
+    } else {
+        k
     }
-    if k == 0 {
-        return k;
-    }
-    if n < k {
-        return 0;
-    }
-    n - k
 }
 
 // The height of corner k of a side over the pen's middle, in sixteenths of a pixel.
@@ -52,14 +43,12 @@ pub fn walk(ys: &[i8], n: usize, left: bool, y: i64, k: usize) -> usize
         return 0;
     }
     let last = n - 1;
-    let mut i = integers::min_usize(k, last);
-    while i < last {
+    for i in k.min(last)..last {
         if below(y, height(ys, n, left, i + 1)) {
             return i;
         }
-        i += 1;
     }
-    i
+    last
 }
 
 // How far to the right of the direction (u, v) place i lies.
@@ -89,8 +78,7 @@ pub fn tangents<'a>(xs: &'a [i8], ys: &'a [i8], n: usize, u: i64, v: i64) -> Fur
     let mut most = least;
     let mut left = 0;
     let mut right = 0;
-    let mut i = 1;
-    while i < n {
+    for i in 1..n {
         let t = turn(xs, ys, u, v, i);
         if t < least {
             least = t;
@@ -100,10 +88,6 @@ pub fn tangents<'a>(xs: &'a [i8], ys: &'a [i8], n: usize, u: i64, v: i64) -> Fur
             most = t;
             right = i;
         }
-        i += 1;
     }
-    Furthest {
-        left: left,
-        right: right,
-    }
+    Furthest { left, right }
 }

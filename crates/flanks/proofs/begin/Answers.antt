@@ -1,11 +1,12 @@
 -- The numbers of the definition, step by step: each within its bound.
 use Rattle.std.proofs.Common.{◌≡◌, refl, sym, ap, ap₂, ◌∙◌, List, ℕ, get_or, ℤ, pos, neg_ℤ, ◌+ℤ◌, ◌-ℤ◌, ◌*ℤ◌, w32, FitsSigned, rules}
 use Rattle.integers.proofs.Machine.{par, add, sub}
+use Rattle.integers.proofs.Words.{widened_from}
 use Rattle.flanks.specs.declared.Ends.{Ends}
 use Rattle.flanks.specs.declared.Flanks.{Flanks}
 use Rattle.flanks.specs.Walk.{tangent_of}
 use Rattle.flanks.specs.Flanks.{ordered, held_of, idle, begun}
-use Rattle.flanks.proofs.Numbers.{number32, answered, sixteenths, flanks, same_flanks}
+use Rattle.flanks.proofs.Numbers.{answered, sixteenths, flanks, same_flanks}
 use Rattle.flanks.proofs.begin.Goals as goal
 
 -- ---- the definition, of the ends in their order
@@ -40,11 +41,13 @@ returns c =
     let uy : FitsSigned w32 e.uy = search rules in
     let ends_are = rw ((par {w = w32} f.ax).reads, (par {w = w32} f.ay).reads, (par {w = w32} f.bx).reads, (par {w = w32} f.by).reads) at c.ordered-ends.ensures in
     -- the way from the lower end to the upper, how deep the pen reaches, and the sweep
-    let u = sub (number32 ux) (number32 lx) tt in
-    let v = sub (number32 uy) (number32 ly) tt in
+    let ly_is = widened_from ly c.from-ly.ensures tt in
+    let uy_is = widened_from uy c.from-uy.ensures tt in
+    let u = sub (widened_from ux c.from-ux.ensures tt) (widened_from lx c.from-lx.ensures tt) tt in
+    let v = sub uy_is ly_is tt in
     let depth = sixteenths (answered c.at-depth.ensures.same c.at-depth.ensures.small tt) in
-    let low = add (number32 ly) depth tt in
-    let high = sub (number32 uy) depth tt in
+    let low = add ly_is depth tt in
+    let high = sub uy_is depth tt in
     -- the corners that the segment runs along
     let n = c.held-n in
     let left = c.tangents-tangents.ensures.left ∙ ap₂ (tangent_of a.xs.now a.ys.now n.result) (ap neg_ℤ u.reads) (ap neg_ℤ v.reads)

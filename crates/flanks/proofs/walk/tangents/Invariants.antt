@@ -10,6 +10,3 @@ invariant-loop-i l = record {
   left : tangent_of l.xs l.ys l.n (neg_ℤ l.u) (neg_ℤ l.v) ≡ tangent_for l.xs l.ys (neg_ℤ l.u) (neg_ℤ l.v) (l.n - l.i) l.i l.left;
   right : tangent_of l.xs l.ys l.n l.u l.v ≡ tangent_for l.xs l.ys l.u l.v (l.n - l.i) l.i l.right;
 }
-
-abbrev pub decreases-loop-i : goal.decreases-loop-i
-decreases-loop-i l = l.n - l.i

@@ -1,5 +1,5 @@
 -- The tests are the definition's, of the next corner; where the loop ends the walk does.
-use Rattle.std.proofs.Common.{sym, ap, ◌∙◌, ◌-◌, ℤ, arith, w64, to_z}
+use Rattle.std.proofs.Common.{◌≡◌, sym, ap, ◌∙◌, ◌-◌, ℤ, arith, w64, to_z}
 use Rattle.integers.proofs.Machine.{known, par}
 use Rattle.integers.proofs.Words.{bits}
 use Rattle.ties.specs.Below.{below}
@@ -30,5 +30,6 @@ pub returns-clause-answer : goal.returns-clause-answer
 returns-clause-answer c =
     let a = c.args in
     let row = to_z w64 (bits a.y) in
-    sym (walk_ends a.ys.now a.n a.left row (a.n - 1) c.loop-i.i c.loop-i-test.false) ∙ sym c.loop-i.invariant.answer
+    let last : a.n - 1 ≡ c.loop-i.i = omega (arith, c.loop-i.invariant.inside, c.loop-i-test.false) in
+    last ∙ sym (walk_ends a.ys.now a.n a.left row (a.n - 1) c.loop-i.i c.loop-i-test.false) ∙ sym c.loop-i.invariant.answer
     ∙ ap (λ (y : ℤ). walked a.ys.now a.n a.left y a.k) (par {w = w64} c.ranges.y).reads

@@ -5,6 +5,3 @@ use Rattle.flanks.proofs.walk.walk.Given as goal
 
 abbrev pub invariant-loop-i : goal.invariant-loop-i
 invariant-loop-i l = record { inside : l.i ≤ l.last; answer : walked l.ys l.n l.left l.y l.fn.k ≡ walked_for l.ys l.n l.left l.y (l.last - l.i) l.i }
-
-abbrev pub decreases-loop-i : goal.decreases-loop-i
-decreases-loop-i l = l.last - l.i
