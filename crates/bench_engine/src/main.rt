@@ -8,7 +8,6 @@
 
 use aperture::Table;
 use checks::Answer;
-use std::num::wrapping_add_u64;
 
 const NUMBER: u64 = 10;
 
@@ -22,67 +21,52 @@ struct Film {
 
 // How many pixels a run has.
 fn run_length(left: u16, right: u16) -> u64 {
-    let from = left as u64;
-    let to = right as u64;
-    if to < from { 0 } else { to - from + 1 }
+    if right < left {
+        0
+    } else {
+        u64::from(right) - u64::from(left) + 1
+    }
 }
 
 // The pixels of the run that an answer counts, if it counts one.
 fn pixels(a: Answer, list: &[u16]) -> u64 {
-    if a.count == 0 {
-        return 0;
+    match list {
+        [left, right, ..] if a.count != 0 => run_length(*left, *right),
+        _ => 0,
     }
-    if list.len() < 2 {
-        return 0;
-    }
-    run_length(list[0], list[1])
 }
 
 // The black pixels of all rows, driven one after another.
 fn driven(t: Table, path: &[i32], f: Film, list: &mut [u16]) -> u64 {
-    let started = engine::start(t, NUMBER, path, f.columns, f.rows, f.first);
-    let mut engine = started.engine;
-    let mut black = 0;
-    let mut left = f.count;
-    while left > 0 {
+    let mut engine = engine::start(t, NUMBER, path, f.columns, f.rows, f.first).engine;
+    let mut black = 0u64;
+    for _ in 0..f.count {
         let stepped = engine::step(engine, list);
-        let answer = stepped.answer;
-        let next = stepped.engine;
-        black = wrapping_add_u64(black, pixels(answer, list));
-        engine = next;
-        left -= 1;
+        engine = stepped.engine;
+        black = black.wrapping_add(pixels(stepped.answer, list));
     }
     black
 }
 
 // The same, each row by a call of its own.
 fn called(t: Table, path: &[i32], f: Film, list: &mut [u16]) -> u64 {
-    let mut black = 0;
-    let mut left = f.count;
+    let mut black = 0u64;
     let mut row = f.first;
-    while left > 0 {
+    for _ in 0..f.count {
         let answer = row::row_runs(t, NUMBER, path, f.columns, f.rows, row, list);
-        black = wrapping_add_u64(black, pixels(answer, list));
-        row = wrapping_add_u64(row, 1);
-        left -= 1;
+        black = black.wrapping_add(pixels(answer, list));
+        row = row.wrapping_add(1);
     }
     black
 }
 
-fn once(way: u64, t: Table, path: &[i32], f: Film, list: &mut [u16]) -> u64 {
-    if way == 0 {
-        return driven(t, path, f, list);
-    }
-    called(t, path, f, list)
-}
-
-fn again(way: u64, times: u64, t: Table, path: &[i32], f: Film, list: &mut [u16]) -> u64 {
-    let mut black = 0;
-    let mut left = times;
-    while left > 0 {
-        let one = once(way, t, path, f, list);
-        black = wrapping_add_u64(black, one);
-        left -= 1;
+// The black pixels of so many turns.
+fn again<F: FnMut() -> u64>(times: u64, mut once: F) -> u64
+    requires { F.IsAlwaysCallable once }
+{
+    let mut black = 0u64;
+    for _ in 0..times {
+        black = black.wrapping_add(once());
     }
     black
 }
@@ -92,17 +76,24 @@ fn work(head: &[u8], path: &[i32], list: &mut [u16]) -> u64 {
     let w = wire::number(head, 8);
     let p = wire::number(head, 16);
     let q = wire::number(head, 24);
-    let defined = aperture::define(aperture::none(), NUMBER, w, p, q);
-    let table = defined.table;
+    let table = aperture::define(aperture::none(), NUMBER, w, p, q).table;
     let film = Film {
         columns: wire::number(head, 32),
         rows: wire::number(head, 40),
         first: wire::number(head, 48),
         count: wire::number(head, 56),
     };
-    let way = wire::number(head, 0);
     let times = wire::number(head, 64);
-    again(way, times, table, path, film, list)
+    match wire::number(head, 0) {
+        0 => again(times, || driven(table, path, film, list)),
+        _ => again(times, || called(table, path, film, list)),
+    }
+}
+
+fn read(rt: HostRuntime, bytes: &mut [u8]) {
+    if let Err(e) = inputs::fill(rt.stdin(), bytes) {
+        tell::fail(rt.stderr(), b"bench_engine: standard input", e);
+    }
 }
 
 fn main(rt: HostRuntime) {
@@ -110,18 +101,8 @@ fn main(rt: HostRuntime) {
     let mut bytes = [0u8; 16];
     let mut path = [0i32; 4];
     let mut list = [0u16; 2];
-    inputs::fill(
-        rt.stdin(),
-        rt.stderr(),
-        &mut head,
-        b"bench_engine: standard input",
-    );
-    inputs::fill(
-        rt.stdin(),
-        rt.stderr(),
-        &mut bytes,
-        b"bench_engine: standard input",
-    );
+    read(rt, &mut head);
+    read(rt, &mut bytes);
     wire::decode(&bytes, &mut path);
     let black = work(&head, &path, &mut list);
     let _ = println!(rt; "{black}");

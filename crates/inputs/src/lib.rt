@@ -1,101 +1,76 @@
-// What a program is given: numbers among the words of its command line, and standard input.
+// What a program is given: numbers among the words of its command line, and standard input; and, in
+// requests, how a test tool is asked and answers.
 #![tactic(auto)]
 
-ghost use Rattle.std.specs.Prelude.{◌≡◌, ◌+◌, ◌≤◌, length, IfOk};
+ghost use Rattle.std.specs.Prelude.{◌≡◌, IfOk};
 ghost use Rattle.io.specs.Counts.{IsPrefixLen};
-ghost use Rattle.inputs.specs.Number.{lengthened, grown, number_of};
+ghost use Rattle.inputs.specs.Number.{lengthened, number_of};
 
 use std::env::{Env, FillError};
 use std::io;
-use std::io::{Read, Stderr, Stdin};
+use std::io::{Read, Stdin};
 
-// What has been read of a number: no digit yet, so much; or something else, or a number that is too large.
-#[derive(Drop)]
-pub enum Number {
-    Nothing,
-    Value(u64),
+mod requests;
+
+pub use requests::{Leave, head, put, put_answer, put_list, record, rest, serve};
+
+// How many bytes of a word are read for a number: a longer one is no number.
+const WORD_MAX: usize = 4096;
+
+// Why a text is no number: it is empty; or it has something else than digits, or is too large.
+#[derive(Clone, Copy, PartialEq, Eq, Debug)]
+pub enum NumberError {
+    Empty,
     Wrong,
 }
 
-// How many bytes came; or that a read failed.
-#[derive(Drop)]
-pub struct Got {
-    pub count: usize,
-    pub is_failed: bool,
-}
-
 // A number with one byte more.
-fn lengthened(n: u64, b: u8) -> Number
+fn lengthened(n: u64, b: u8) -> Result<u64, NumberError>
     ensures { result ≡ lengthened n b }
 {
-    if b < b'0' {
-        return Number::Wrong;
-    }
-    if b'9' < b {
-        return Number::Wrong;
-    }
-    let digit = (b - b'0') as u64;
-    if (u64::MAX - digit) / 10 < n {
-        return Number::Wrong;
-    }
-    Number::Value(10 * n + digit)
-}
-
-fn grown(m: Number, b: u8) -> Number
-    ensures { result ≡ grown m b }
-{
-    match m {
-        Number::Nothing => lengthened(0, b),
-        Number::Value(n) => lengthened(n, b),
-        Number::Wrong => Number::Wrong,
+    match b {
+        b'0'..=b'9' => n
+            .checked_mul(10)
+            .and_then(|m| m.checked_add(u64::from(b - b'0')))
+            .ok_or(NumberError::Wrong),
+        _ => Err(NumberError::Wrong),
     }
 }
 
 // The number that a text is.
-pub fn read_number(text: &[u8]) -> Number
+pub fn read_number(text: &[u8]) -> Result<u64, NumberError>
     ensures { result ≡ number_of text.now }
 {
-    let mut number = Number::Nothing;
-    let mut i = 0;
-    while i < text.len() {
-        let next = grown(number, text[i]);
-        number = next;
-        i += 1;
+    if text.is_empty() {
+        return Err(NumberError::Empty);
     }
-    number
+    let mut n = 0;
+    for b in text {
+        n = lengthened(n, *b)?;
+    }
+    Ok(n)
 }
 
-// One read into buf from index `done` on, and how many bytes came.
-fn read_some(mut input: Stdin, buf: &mut [u8], done: usize) -> io::Result<usize>
-    requires { done ≤ length buf.old }
-    ensures { IfOk result (λ n. done + n ≤ length buf.old) }
-{
-    input.read(&mut buf[done..])
+// The number that a word of the command line is.
+pub fn word_number(rt: &impl Env, i: usize) -> Result<u64, NumberError> {
+    let mut word = [0u8; WORD_MAX];
+    let n = rt.arg(i, &mut word).map_err(|_| NumberError::Wrong)?;
+    read_number(&word[..n])
 }
 
-// Fills buf from standard input, as far as that has bytes. A read that fails is told on standard error,
-// behind the given text, and never passes for the end.
-pub fn fill(input: Stdin, errors: Stderr, buf: &mut [u8], told: &[u8]) -> Got
-    ensures { IsPrefixLen result.count buf.new }
+// Fills buf from standard input, as far as that has bytes, and answers how many came. A read that fails
+// never passes for the end.
+pub fn fill(mut input: Stdin, buf: &mut [u8]) -> io::Result<usize>
+    ensures { IfOk result (λ n. IsPrefixLen n buf.new) }
 {
     let mut done = 0;
     while done < buf.len() {
-        match read_some(input, buf, done) {
-            Err(e) => {
-                tell::fail(errors, told, e);
-                return Got {
-                    count: 0,
-                    is_failed: true,
-                };
-            }
-            Ok(0) => break,
-            Ok(n) => done += n,
+        match input.read(&mut buf[done..])? {
+            0 => break,
+            n => done += n,
         }
     }
-    Got {
-        count: done,
-        is_failed: false,
-    }
+    Ok(done)
 }
 
 // Why a word could not be read, as an error of the system.
@@ -115,10 +90,7 @@ pub fn is_given(rt: &impl Env, i: usize) -> bool {
 
 // How many words the program was started with, its own name among them.
 pub fn word_count(rt: &impl Env) -> usize {
-    for i in 0..usize::MAX {
-        if !is_given(rt, i) {
-            return i;
-        }
-    }
-    usize::MAX
+    (0..usize::MAX)
+        .find(|i| !is_given(rt, *i))
+        .unwrap_or(usize::MAX)
 }

@@ -14,14 +14,13 @@
 // whose strokes are kept in lent lists; and of these the film is drawn band by band (the crate output).
 #![tactic(auto)]
 
-ghost use Rattle.std.specs.Prelude.{◌≡◌, ◌≤◌, true, length, take};
+ghost use Rattle.std.specs.Prelude.{◌≡◌, ◌≤◌, true, length, take, Ok, IsOk};
 ghost use Rattle.limits.specs.declared.Verdict.TheVariants.{Passed};
 ghost use Rattle.drawing.specs.Strokes.{drawing_of};
 ghost use Rattle.drawing.specs.Film.{band_verdict};
 
-use intake::Intake;
 use limits::Verdict;
-use std::io::{Stderr, Stdout};
+use refusal::NoFilm;
 
 mod intake;
 mod refusal;
@@ -39,188 +38,163 @@ const STARTS_MAX: usize = 131073;
 
 const ENTRIES_MAX: usize = 524288;
 
-// Writes n rows from row `first` on of the film of the first strokes of the list, so many. Answers whether
-// all was written.
-fn write_film(
-    to: Stdout,
-    told: Stderr,
-    settings: &[u64],
-    apertures: &[u64],
-    count: usize,
-    starts: &[usize],
-    path: &[i32],
+// What is asked for: the nanometres of a unit, the film's size, its lowest row to draw and how many, and the
+// settings.
+#[derive(Clone, Copy)]
+struct Wanted<'a> {
+    unit: u64,
     columns: u64,
     rows: u64,
     first: u64,
-    n: u64,
-) -> bool
-    ensures { result ≡ true →
-        band_verdict (drawing_of settings.now (take count apertures.now) starts.now path.now) columns rows first n ≡ Passed }
+    count: u64,
+    settings: &'a [u64],
+}
+
+// Writes the rows of the film of the first strokes of the list, so many. Answers whether all was written.
+fn write_film(
+    rt: HostRuntime,
+    w: Wanted,
+    apertures: &[u64],
+    strokes: usize,
+    starts: &[usize],
+    path: &[i32],
+) -> Result<bool, NoFilm>
+    ensures { result ≡ Ok true →
+        band_verdict (drawing_of w.entry.settings.now (take strokes apertures.now) starts.now path.now)
+        w.entry.columns w.entry.rows w.entry.first w.entry.count ≡ Passed }
 {
-    if apertures.len() < count {
-        refusal::fault(told);
-        return false;
+    if apertures.len() < strokes {
+        return Err(NoFilm::Fault);
     }
-    output::write(
-        to,
-        told,
+    Ok(output::write(
+        rt.stdout(),
+        rt.stderr(),
         b"plot",
-        settings,
-        &apertures[..count],
+        w.settings,
+        &apertures[..strokes],
         starts,
         path,
-        columns,
-        rows,
-        first,
-        n,
-    )
+        w.columns,
+        w.rows,
+        w.first,
+        w.count,
+    ))
 }
 
 // The lists are here and nowhere else: all that read or write them are lent them.
 // No tactic looks at this function's goals: each would write the lists out, entry by entry.
 #[tactic(none)]
-fn draw_file(
-    rt: HostRuntime,
-    unit: u64,
-    columns: u64,
-    rows: u64,
-    first: u64,
-    n: u64,
-    settings: &[u64],
-) {
+fn draw_file(rt: HostRuntime, w: Wanted) -> Result<bool, NoFilm> {
     let mut path = [0i32; ENTRIES_MAX];
     let mut apertures = [0u64; STROKES_MAX];
     let mut starts = [0usize; STARTS_MAX];
-    let read = intake::read(
+    let strokes = intake::read(
         rt.stdin(),
-        rt.stderr(),
-        unit,
-        settings,
+        w.unit,
+        w.settings,
         &mut path,
         &mut apertures,
         &mut starts,
-    );
-    let Intake::Whole(count) = read else {
-        return;
-    };
-    write_film(
-        rt.stdout(),
-        rt.stderr(),
-        settings,
-        &apertures,
-        count,
-        &starts,
-        &path,
-        columns,
-        rows,
-        first,
-        n,
-    );
+    )?;
+    write_film(rt, w, &apertures, strokes, &starts, &path)
 }
 
 // All that can be refused before the file is read: the settings (1), N (1), the raster (4), the rows (5).
-fn plot(rt: HostRuntime, unit: u64, columns: u64, rows: u64, first: u64, n: u64, settings: &[u64]) {
-    let of_settings = setting_list::settings_check(settings);
-    if let Verdict::Refused(number, place) = of_settings {
-        return refusal::tell_setting(rt.stderr(), number, place);
+fn plot(rt: HostRuntime, w: Wanted) -> Result<bool, NoFilm> {
+    if let Verdict::Refused(number, place) = setting_list::settings_check(w.settings) {
+        return Err(NoFilm::Setting(number, place));
     }
-    if !units::is_unit(unit) {
-        return refusal::tell_unit(rt.stderr());
+    if !units::is_unit(w.unit) {
+        return Err(NoFilm::Unit);
     }
-    let of_raster = checks::raster_check(columns, rows);
-    if let Verdict::Refused(number, _) = of_raster {
-        return refusal::tell_raster(rt.stderr(), number);
+    if let Verdict::Refused(number, _) = checks::raster_check(w.columns, w.rows) {
+        return Err(NoFilm::Raster(number));
     }
-    let of_rows = film_checks::rows_check(rows, first, n);
-    if let Verdict::Refused(number, _) = of_rows {
-        return refusal::tell_rows(rt.stderr(), number);
+    if let Verdict::Refused(number, _) = film_checks::rows_check(w.rows, w.first, w.count) {
+        return Err(NoFilm::Rows(number));
     }
-    draw_file(rt, unit, columns, rows, first, n, settings);
+    draw_file(rt, w)
 }
 
-// Whether N, COLUMNS, ROWS and the settings can be so many words. What is wrong is told.
-fn is_form(told: Stderr, count: usize) -> bool
-    ensures { result ≡ true → (6 ≤ count) × (count ≤ 99) }
+// Whether N, COLUMNS, ROWS and the settings can be so many words.
+fn form_check(count: usize) -> Result<(), NoFilm>
+    ensures { IsOk result → (6 ≤ count) × (count ≤ 99) }
 {
-    if count < 6 {
-        refusal::usage(told);
-        return false;
-    }
-    if count % 3 != 0 {
-        refusal::usage(told);
-        return false;
+    if count < 6 || count % 3 != 0 {
+        return Err(NoFilm::Form);
     }
     if WORDS_MAX < count {
-        refusal::tell(told, b"more than 32 settings");
-        return false;
+        return Err(NoFilm::Settings);
     }
-    true
+    Ok(())
+}
+
+// What N, COLUMNS, ROWS and the settings ask for: all rows.
+fn read_wanted(numbers: &[u64]) -> Wanted<'_>
+    requires { 3 ≤ length numbers.now }
+{
+    Wanted {
+        unit: numbers[0],
+        columns: numbers[1],
+        rows: numbers[2],
+        first: 0,
+        count: numbers[2],
+        settings: &numbers[3..],
+    }
 }
 
 // The words are N, COLUMNS, ROWS and the settings: the list gets their numbers.
-fn plot_words(rt: HostRuntime, numbers: &mut [u64])
+fn plot_words(rt: HostRuntime, numbers: &mut [u64]) -> Result<bool, NoFilm>
     requires { 3 ≤ length numbers.old }
 {
-    let wrong = words::read_words(&rt, numbers, 0);
-    if wrong != 0 {
-        return refusal::tell_word(rt.stderr(), wrong);
-    }
-    plot(
-        rt,
-        numbers[0],
-        numbers[1],
-        numbers[2],
-        0,
-        numbers[2],
-        &numbers[3..],
-    );
+    words::read_words(&rt, numbers, 0)?;
+    plot(rt, read_wanted(numbers))
 }
 
 // Draws all rows, by so many words.
-fn plot_all(rt: HostRuntime, count: usize) {
-    if is_form(rt.stderr(), count) {
-        let mut numbers = [0u64; WORDS_MAX];
-        plot_words(rt, &mut numbers[..count]);
-    }
+fn plot_all(rt: HostRuntime, count: usize) -> Result<bool, NoFilm> {
+    form_check(count)?;
+    let mut numbers = [0u64; WORDS_MAX];
+    plot_words(rt, &mut numbers[..count])
 }
 
 // The words behind `rows` are FIRST and COUNT, and then as above.
-fn plot_rows_words(rt: HostRuntime, numbers: &mut [u64])
+fn plot_rows_words(rt: HostRuntime, numbers: &mut [u64]) -> Result<bool, NoFilm>
     requires { 5 ≤ length numbers.old }
 {
-    let wrong = words::read_words(&rt, numbers, 1);
-    if wrong != 0 {
-        return refusal::tell_word(rt.stderr(), wrong);
-    }
-    plot(
-        rt,
-        numbers[2],
-        numbers[3],
-        numbers[4],
-        numbers[0],
-        numbers[1],
-        &numbers[5..],
-    );
+    words::read_words(&rt, numbers, 1)?;
+    let some_rows = Wanted {
+        first: numbers[0],
+        count: numbers[1],
+        ..read_wanted(&numbers[2..])
+    };
+    plot(rt, some_rows)
 }
 
 // Draws some rows, by so many words behind `rows`.
-fn plot_rows(rt: HostRuntime, count: usize) {
+fn plot_rows(rt: HostRuntime, count: usize) -> Result<bool, NoFilm> {
     if count < 2 {
-        return refusal::usage(rt.stderr());
+        return Err(NoFilm::Form);
     }
-    if is_form(rt.stderr(), count - 2) {
-        let mut numbers = [0u64; ROWS_WORDS_MAX];
-        plot_rows_words(rt, &mut numbers[..count]);
-    }
+    form_check(count - 2)?;
+    let mut numbers = [0u64; ROWS_WORDS_MAX];
+    plot_rows_words(rt, &mut numbers[..count])
 }
 
-fn main(rt: HostRuntime) {
+// Draws what the words ask for. Answers whether all was written, or why there is no film.
+fn draw(rt: HostRuntime) -> Result<bool, NoFilm> {
     let named = inputs::word_count(&rt);
     if named < 2 {
-        return refusal::usage(rt.stderr());
+        return Err(NoFilm::Form);
     }
     if words::is_rows(&rt) {
         return plot_rows(rt, named - 2);
     }
-    plot_all(rt, named - 1);
+    plot_all(rt, named - 1)
+}
+
+fn main(rt: HostRuntime) {
+    if let Err(why) = draw(rt) {
+        refusal::tell(rt.stderr(), why);
+    }
 }

@@ -1,118 +1,97 @@
-// What is told on standard error, in the name of the program: the number of a refusal, its place and what
-// it means; or why there is no film otherwise.
+// Why there is no film, as it is told on standard error in the name of the program: the number of a refusal,
+// its place and what it means; or something else.
 use marks::Mark;
 use std::io::Stderr;
-use tell::{say, say_number};
+use std::{fmt, io};
 
-// A line of its own.
-pub fn tell(told: Stderr, why: &[u8]) {
-    say(told, b"plot: ");
-    say(told, why);
-    say(told, b"\n");
+// Of the words: their form, more than 32 settings, or one that is no number, the first being 1. Of what they say:
+// the number of the refusal, and for a setting its place, from 0. Of the file: the refusal's number, where it is,
+// and whether that is the file's end. And a read that failed; and what cannot be: by what the calls promise no
+// branch that makes it is taken.
+#[derive(Drop)]
+pub enum NoFilm {
+    Form,
+    Settings,
+    Word(usize),
+    Setting(u64, u64),
+    Unit,
+    Raster(u64),
+    Rows(u64),
+    File(u64, Mark, bool),
+    Unread(io::Error),
+    Fault,
 }
 
-pub fn usage(told: Stderr) {
-    say(
-        told,
-        b"usage: plot [rows FIRST COUNT] N COLUMNS ROWS W P Q [W P Q ..] <GERBER >FILM\n",
-    );
+impl From<io::Error> for NoFilm {
+    fn from(e: io::Error) -> NoFilm {
+        NoFilm::Unread(e)
+    }
 }
 
-// Tells what cannot be: by what the calls promise no branch that calls this is taken.
-pub fn fault(told: Stderr) {
-    tell(told, b"a fault of the program, and no film");
-}
-
-// A word of the command line, the first being 1, as "plot: word 3 is no number below 2^64".
-pub fn tell_word(told: Stderr, word: usize) {
-    say(told, b"plot: word ");
-    say_number(told, word as u64);
-    say(told, b" is no number below 2^64\n");
-}
-
-// As "plot: 4 at ", with which every refusal starts.
-fn say_refused(told: Stderr, number: u64) {
-    say(told, b"plot: ");
-    say_number(told, number);
-    say(told, b" at ");
-}
-
-// The settings count from 1.
-pub fn tell_setting(told: Stderr, number: u64, place: u64) {
-    say_refused(told, number);
-    say(told, b"setting ");
-    say_number(told, std::num::wrapping_add_u64(place, 1));
-    say(
-        told,
-        b": outside the limits: W and W P / Q are 16 to 512, P and Q 1 to 16\n",
-    );
-}
-
-pub fn tell_unit(told: Stderr) {
-    say_refused(told, limits::BAD_SETTING);
-    say(
-        told,
-        b"N: outside the limits: a unit is 1 to 1,000,000 nanometres\n",
-    );
-}
-
-pub fn tell_raster(told: Stderr, number: u64) {
-    say_refused(told, number);
-    say(
-        told,
-        b"COLUMNS or ROWS: outside the limits: each is 1 to 16,384\n",
-    );
-}
-
-pub fn tell_rows(told: Stderr, number: u64) {
-    say_refused(told, number);
-    say(told, b"FIRST or COUNT: the film has no such rows\n");
-}
-
-// A refusal of the file, as "plot: 14 at byte 37, line 3, column 5: ". Bytes count from 0, lines and columns
-// from 1.
-pub fn tell_file(told: Stderr, number: u64, m: Mark, is_end: bool) {
-    say_refused(told, number);
-    say(told, b"byte ");
-    say_number(told, m.at);
-    say(told, b", line ");
-    say_number(told, m.line);
-    say(told, b", column ");
-    say_number(told, m.column);
-    say(told, b": ");
-    say_meaning(told, number, is_end);
-    say(told, b"\n");
+// Bytes count from 0, settings, lines and columns from 1.
+impl fmt::Display for NoFilm {
+    fn fmt<W: fmt::Write>(&self, f: &mut fmt::Formatter<W>) -> fmt::Result {
+        match self {
+            NoFilm::Form => f.write_str(
+                "usage: plot [rows FIRST COUNT] N COLUMNS ROWS W P Q [W P Q ..] <GERBER >FILM",
+            ),
+            NoFilm::Settings => f.write_str("plot: more than 32 settings"),
+            NoFilm::Word(word) => write!(f, "plot: word {word} is no number below 2^64"),
+            NoFilm::Setting(number, place) => {
+                let setting = place.wrapping_add(1);
+                write!(
+                    f,
+                    "plot: {number} at setting {setting}: outside the limits: W and W P / Q are 16 to 512, P and Q 1 to 16"
+                )
+            }
+            NoFilm::Unit => {
+                let number = limits::BAD_SETTING;
+                write!(
+                    f,
+                    "plot: {number} at N: outside the limits: a unit is 1 to 1,000,000 nanometres"
+                )
+            }
+            NoFilm::Raster(number) => write!(
+                f,
+                "plot: {number} at COLUMNS or ROWS: outside the limits: each is 1 to 16,384"
+            ),
+            NoFilm::Rows(number) => write!(
+                f,
+                "plot: {number} at FIRST or COUNT: the film has no such rows"
+            ),
+            NoFilm::File(number, mark, is_end) => {
+                let Mark { at, line, column } = *mark;
+                let meaning = meaning(*number, *is_end);
+                write!(
+                    f,
+                    "plot: {number} at byte {at}, line {line}, column {column}: {meaning}"
+                )
+            }
+            NoFilm::Unread(_) => f.write_str("plot: standard input"),
+            NoFilm::Fault => f.write_str("plot: a fault of the program, and no film"),
+        }
+    }
 }
 
 // What a refusal of the file means; the end is where no byte is any more.
-fn say_meaning(told: Stderr, number: u64, is_end: bool) {
-    if number == limits::BAD_COMMAND {
-        return say_command(told, is_end);
+fn meaning(number: u64, is_end: bool) -> &'static str {
+    match number {
+        limits::BAD_COMMAND if is_end => "the file ends without M02, or within a command",
+        limits::BAD_COMMAND => "no command of this subset, or none that is allowed here",
+        limits::NO_APERTURE => "an aperture that is not defined, or none chosen",
+        limits::BAD_PATH => "more than 4,096 points in a stroke",
+        limits::BAD_COORDINATE => "a point outside -262,144 to 262,144 units",
+        limits::NO_ROOM => "more entries than the program keeps, which are 524,288",
+        _ => "refused",
     }
-    if number == limits::NO_APERTURE {
-        return say(told, b"an aperture that is not defined, or none chosen");
-    }
-    if number == limits::BAD_PATH {
-        return say(told, b"more than 4,096 points in a stroke");
-    }
-    if number == limits::BAD_COORDINATE {
-        return say(told, b"a point outside -262,144 to 262,144 units");
-    }
-    if number == limits::NO_ROOM {
-        return say(
-            told,
-            b"more entries than the program keeps, which are 524,288",
-        );
-    }
-    say(told, b"refused")
 }
 
-fn say_command(told: Stderr, is_end: bool) {
-    if is_end {
-        return say(told, b"the file ends without M02, or within a command");
+// A line of its own.
+pub fn tell(told: Stderr, why: NoFilm) {
+    match why {
+        NoFilm::Unread(e) => tell::fail(told, b"plot: standard input", e),
+        _ => {
+            let _ = told.println(why);
+        }
     }
-    say(
-        told,
-        b"no command of this subset, or none that is allowed here",
-    )
 }

@@ -1,46 +1,23 @@
 // The words of the command line: each is a number, but for the first, which may be `rows`.
 ghost use Rattle.std.specs.Prelude.{◌≤◌};
 
-use inputs::Number;
+use crate::refusal::NoFilm;
 use std::env::Env;
-
-// How many bytes of a word are read: a longer one is no number.
-const WORD_MAX: usize = 4096;
-
-// The number that an argument is. One that is longer than the buffer is none.
-fn number_of(rt: &impl Env, i: usize) -> Number {
-    let mut word = [0u8; WORD_MAX];
-    let Ok(n) = rt.arg(i, &mut word) else {
-        return Number::Wrong;
-    };
-    inputs::read_number(&word[..n])
-}
 
 // Whether the first word is `rows`.
 pub fn is_rows(rt: &impl Env) -> bool {
-    let mut word = [0u8; WORD_MAX];
-    let Ok(n) = rt.arg(1, &mut word) else {
-        return false;
-    };
-    if n != 4 {
-        return false;
-    }
-    word[0] == b'r' && word[1] == b'o' && word[2] == b'w' && word[3] == b's'
+    let mut word = [0u8; 4];
+    matches!(rt.arg(1, &mut word), Ok(4)) && word == *b"rows"
 }
 
-// Fills the list with the words behind the first ones, so many. Answers 0, or the first word that is no
-// number, counted from 1.
-pub fn read_words(rt: &impl Env, numbers: &mut [u64], skipped: usize) -> usize
+// Fills the list with the words behind the first ones, so many. A word that is no number is refused, counted
+// from 1.
+pub fn read_words(rt: &impl Env, numbers: &mut [u64], skipped: usize) -> Result<(), NoFilm>
     requires { skipped ≤ 1 }
 {
-    let mut i = 0;
-    while i < numbers.len() {
+    for i in 0..numbers.len() {
         let word = skipped + i + 1;
-        let Number::Value(n) = number_of(rt, word) else {
-            return word;
-        };
-        numbers[i] = n;
-        i += 1;
+        numbers[i] = inputs::word_number(rt, word).map_err(|_| NoFilm::Word(word))?;
     }
-    0
+    Ok(())
 }

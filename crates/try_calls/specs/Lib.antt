@@ -1,4 +1,3 @@
 -- What the tool reads, and what it lends.
 pub mod Command
-pub mod Lent
 pub mod Pattern

@@ -1,90 +1,132 @@
 // A call that draws: its path is read, it is lent a list or a buffer that holds the pattern, and its
 // answer is written with all that was lent.
 ghost use Rattle.std.specs.Prelude.{◌≤◌, length};
-ghost use Rattle.try_calls.specs.Command.{room_max};
+ghost use Rattle.try_calls.specs.Command.{records_max, room_max};
 
-use crate::command::{Command, PATH_MAX, RECORDS_MAX, ROOM_MAX};
-use crate::{command, lent, output, pattern};
+use crate::command::{Command, Form, PATH_MAX, RECORDS_MAX, ROOM_MAX};
+use crate::pattern;
 use aperture::Table;
+use inputs::Leave;
+use records::Run;
 
-// Reads a path, four bytes to an entry.
-fn read_path(rt: HostRuntime, bytes: &mut [u8], path: &mut [i32]) -> bool {
-    let got = inputs::fill(rt.stdin(), rt.stderr(), bytes, b"try_calls: standard input");
-    if got.is_failed {
-        return false;
-    }
-    if got.count < bytes.len() {
-        return output::leave(rt.stderr(), b"the stream breaks off in a path");
-    }
-    wire::decode(bytes, path);
-    true
-}
+// How many bytes a list's numbers have at most, two to a number.
+const BYTES_MAX: usize = 2 * ROOM_MAX;
 
-fn row(rt: HostRuntime, t: Table, c: Command, path: &[i32], list: &mut [u16]) -> bool
+const NOTHING: Run = Run { left: 0, right: 0 };
+
+fn row(rt: HostRuntime, t: Table, c: Command, path: &[i32], list: &mut [u16]) -> Result<(), Leave>
     requires { length list.old ≤ room_max }
 {
-    pattern::fill_pairs(list);
+    pattern::fill(list);
     let answer = row::row_runs(t, c.number, path, c.a, c.b, c.c, list);
-    output::put_answer(rt, answer) && output::put_pairs(rt, list)
+    inputs::put_answer(rt.stdout(), answer)?;
+    inputs::put_list::<BYTES_MAX>(rt.stdout(), list)
 }
 
-fn packed(rt: HostRuntime, t: Table, c: Command, path: &[i32], bytes: &mut [u8]) -> bool {
-    pattern::fill_bytes(bytes);
+fn packed(
+    rt: HostRuntime,
+    t: Table,
+    c: Command,
+    path: &[i32],
+    bytes: &mut [u8],
+) -> Result<(), Leave>
+    requires { length bytes.old ≤ room_max }
+{
+    pattern::fill(bytes);
     let answer = packed::packed_row(t, c.number, path, c.a, c.b, c.c, bytes);
-    output::put_answer(rt, answer) && output::put(rt, bytes)
+    inputs::put_answer(rt.stdout(), answer)?;
+    inputs::put(rt.stdout(), bytes)
 }
 
-fn records(rt: HostRuntime, t: Table, c: Command, path: &[i32], room: usize) -> bool {
-    if room > RECORDS_MAX {
-        return output::leave(rt.stderr(), b"a path or a room is too long for the tool");
+// Two numbers to a record.
+fn put_records(rt: HostRuntime, list: &[Run]) -> Result<(), Leave>
+    requires { length list.now ≤ records_max }
+{
+    let mut numbers = [0u16; ROOM_MAX];
+    for (i, run) in list.iter().enumerate() {
+        numbers[2 * i] = run.left;
+        numbers[2 * i + 1] = run.right;
     }
-    let was = lent::filled(room);
-    let lent = lent::lend(t, c.number, path, c.a, c.b, c.c, room, was);
-    let answer = lent.answer;
-    let list = lent.list;
-    output::put_answer(rt, answer) && output::put_records(rt, list, room)
+    inputs::put_list::<BYTES_MAX>(rt.stdout(), &numbers[..2 * list.len()])
+}
+
+fn records(
+    rt: HostRuntime,
+    t: Table,
+    c: Command,
+    path: &[i32],
+    list: &mut [Run],
+) -> Result<(), Leave>
+    requires { length list.old ≤ records_max }
+{
+    pattern::fill(list);
+    let answer = records::row_records(t, c.number, path, c.a, c.b, c.c, list);
+    inputs::put_answer(rt.stdout(), answer)?;
+    put_records(rt, list)
 }
 
 // Makes a call that draws, with so much room.
-fn call(rt: HostRuntime, t: Table, c: Command, path: &[i32], room: usize) -> bool
+fn call(
+    rt: HostRuntime,
+    t: Table,
+    form: Form,
+    c: Command,
+    path: &[i32],
+    room: usize,
+) -> Result<(), Leave>
     requires { room ≤ room_max }
 {
-    if c.kind == command::ROW {
-        let mut list = [0u16; ROOM_MAX];
-        return row(rt, t, c, path, &mut list[..room]);
+    match form {
+        Form::Row => {
+            let mut list = [0u16; ROOM_MAX];
+            row(rt, t, c, path, &mut list[..room])
+        }
+        Form::Packed => {
+            let mut bytes = [0u8; ROOM_MAX];
+            packed(rt, t, c, path, &mut bytes[..room])
+        }
+        Form::Records => {
+            if room > RECORDS_MAX {
+                return Err(Leave::LongPath);
+            }
+            let mut list = [NOTHING; RECORDS_MAX];
+            records(rt, t, c, path, &mut list[..room])
+        }
     }
-    if c.kind == command::RECORDS {
-        return records(rt, t, c, path, room);
-    }
-    let mut bytes = [0u8; ROOM_MAX];
-    packed(rt, t, c, path, &mut bytes[..room])
 }
 
-// Reads the path of a call that draws, and makes the call.
+// Reads the path of a call that draws, four bytes to an entry, and makes the call.
 fn call_on(
     rt: HostRuntime,
     t: Table,
+    form: Form,
     c: Command,
     room: usize,
     bytes: &mut [u8],
     path: &mut [i32],
-) -> bool
+) -> Result<(), Leave>
     requires { room ≤ room_max }
 {
-    if !read_path(rt, bytes, path) {
-        return false;
-    }
-    call(rt, t, c, path, room)
+    inputs::rest(rt.stdin(), bytes, Leave::BrokenPath)?;
+    wire::decode(bytes, path);
+    call(rt, t, form, c, path, room)
 }
 
-// False where no command can follow.
-pub fn draw(rt: HostRuntime, t: Table, c: Command) -> bool {
+pub fn draw(rt: HostRuntime, t: Table, form: Form, c: Command) -> Result<(), Leave> {
     if c.entries > PATH_MAX as u64 || c.room > ROOM_MAX as u64 {
-        return output::leave(rt.stderr(), b"a path or a room is too long for the tool");
+        return Err(Leave::LongPath);
     }
     let n = c.entries as usize;
     let end = 4 * n;
     let mut bytes = [0u8; 4 * PATH_MAX];
     let mut path = [0i32; PATH_MAX];
-    call_on(rt, t, c, c.room as usize, &mut bytes[..end], &mut path[..n])
+    call_on(
+        rt,
+        t,
+        form,
+        c,
+        c.room as usize,
+        &mut bytes[..end],
+        &mut path[..n],
+    )
 }

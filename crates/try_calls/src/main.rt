@@ -16,91 +16,41 @@
 
 mod command;
 mod draw;
-mod lent;
-mod output;
 mod pattern;
 
-use aperture::{Changed, Table};
-use command::Command;
-
-// The table after a command, and whether another can follow.
-#[derive(Drop)]
-struct Turn {
-    table: Table,
-    going: bool,
-}
-
-fn answered(rt: HostRuntime, changed: Changed) -> Turn {
-    let table = changed.table;
-    Turn {
-        table: table,
-        going: output::put_number(rt, changed.refusal),
-    }
-}
+use aperture::Table;
+use command::{Command, HEAD, Kind};
+use inputs::Leave;
 
 // Obeys a command.
-fn obey(rt: HostRuntime, t: Table, c: Command) -> Turn {
-    if c.kind == command::START {
-        return Turn {
-            table: aperture::none(),
-            going: output::put_number(rt, limits::DONE),
-        };
-    }
-    if c.kind == command::DEFINE {
-        let changed = aperture::define(t, c.number, c.a, c.b, c.c);
-        return answered(rt, changed);
-    }
-    if c.kind == command::REMOVE {
-        let changed = aperture::remove(t, c.number);
-        return answered(rt, changed);
-    }
-    if c.kind <= command::RECORDS {
-        return Turn {
-            table: t,
-            going: draw::draw(rt, t, c),
-        };
-    }
-    Turn {
-        table: t,
-        going: output::leave(rt.stderr(), b"a command of no kind"),
-    }
+fn obey(rt: HostRuntime, t: &mut Table, c: Command) -> Result<(), Leave> {
+    let refusal = match c.kind {
+        Kind::Start => {
+            *t = aperture::none();
+            limits::DONE
+        }
+        Kind::Define => {
+            let changed = aperture::define(*t, c.number, c.a, c.b, c.c);
+            *t = changed.table;
+            changed.refusal
+        }
+        Kind::Remove => {
+            let changed = aperture::remove(*t, c.number);
+            *t = changed.table;
+            changed.refusal
+        }
+        Kind::Draw(form) => return draw::draw(rt, *t, form, c),
+    };
+    inputs::put(rt.stdout(), &refusal.to_le_bytes())
 }
 
 // Reads one command and obeys it.
-fn one(rt: HostRuntime, t: Table) -> Turn {
-    let mut head = [0u8; command::HEAD];
-    let got = inputs::fill(
-        rt.stdin(),
-        rt.stderr(),
-        &mut head,
-        b"try_calls: standard input",
-    );
-    if got.is_failed || got.count == 0 {
-        return Turn {
-            table: t,
-            going: false,
-        };
-    }
-    if got.count < command::HEAD {
-        return Turn {
-            table: t,
-            going: output::leave(rt.stderr(), b"the stream breaks off in a command"),
-        };
-    }
-    obey(rt, t, command::decode(&head))
+fn one(rt: HostRuntime, t: &mut Table) -> Result<(), Leave> {
+    let head: [u8; HEAD] = inputs::head(rt.stdin(), Leave::BrokenCommand)?;
+    obey(rt, t, command::decode(&head)?)
 }
 
-// A proved loop has to end, and nothing says that the input does. So the loop counts its turns, up to a
-// number that no run uses up.
 fn main(rt: HostRuntime) {
-    let mut turn = Turn {
-        table: aperture::none(),
-        going: true,
-    };
-    for _ in 0..u64::MAX {
-        if !turn.going {
-            return;
-        }
-        turn = one(rt, turn.table);
-    }
+    let mut table = aperture::none();
+    inputs::serve(rt.stderr(), b"try_calls", || one(rt, &mut table));
 }

@@ -16,36 +16,17 @@
 #![tactic(auto)]
 
 mod drive;
-mod output;
 mod request;
 
-use request::{PATH_MAX, Request, STEPS_MAX};
-
-// Reads as many bytes as there is room for.
-fn read(rt: HostRuntime, bytes: &mut [u8]) -> bool {
-    let got = inputs::fill(
-        rt.stdin(),
-        rt.stderr(),
-        bytes,
-        b"try_engine: standard input",
-    );
-    if got.is_failed {
-        return false;
-    }
-    if got.count < bytes.len() {
-        return output::leave(rt.stderr(), b"the stream breaks off in a request");
-    }
-    true
-}
+use inputs::Leave;
+use request::{HEAD, PATH_MAX, Request, STEPS_MAX};
 
 // Starts an engine and makes its steps.
-fn answer(rt: HostRuntime, r: Request, path: &[i32], rooms: &[u8]) -> bool {
-    let defined = aperture::define(aperture::none(), r.defined, r.w, r.p, r.q);
-    let table = defined.table;
+fn answer(rt: HostRuntime, r: Request, path: &[i32], rooms: &[u8]) -> Result<(), Leave> {
+    let table = aperture::define(aperture::none(), r.defined, r.w, r.p, r.q).table;
     let started = engine::start(table, r.number, path, r.columns, r.rows, r.row);
-    let answer = started.answer;
-    let engine = started.engine;
-    output::put_answer(rt, answer) && drive::drive(rt, engine, rooms)
+    inputs::put_answer(rt.stdout(), started.answer)?;
+    drive::drive(rt, started.engine, rooms)
 }
 
 // Reads what follows a head, and answers the request.
@@ -55,21 +36,17 @@ fn read_on(
     bytes: &mut [u8],
     path: &mut [i32],
     rooms: &mut [u8],
-) -> bool {
-    if !read(rt, bytes) {
-        return false;
-    }
-    if !read(rt, rooms) {
-        return false;
-    }
+) -> Result<(), Leave> {
+    inputs::rest(rt.stdin(), bytes, Leave::BrokenRequest)?;
+    inputs::rest(rt.stdin(), rooms, Leave::BrokenRequest)?;
     wire::decode(bytes, path);
     answer(rt, r, path, rooms)
 }
 
-// Answers the request of a head. False where no other can follow.
-fn obey(rt: HostRuntime, r: Request) -> bool {
+// Answers the request of a head.
+fn obey(rt: HostRuntime, r: Request) -> Result<(), Leave> {
     if r.entries > PATH_MAX as u64 || r.steps > STEPS_MAX as u64 {
-        return output::leave(rt.stderr(), b"a request is too long for the tool");
+        return Err(Leave::LongRequest);
     }
     let n = r.entries as usize;
     let end = 4 * n;
@@ -87,29 +64,11 @@ fn obey(rt: HostRuntime, r: Request) -> bool {
 }
 
 // Reads one request and answers it.
-fn one(rt: HostRuntime) -> bool {
-    let mut head = [0u8; request::HEAD];
-    let got = inputs::fill(
-        rt.stdin(),
-        rt.stderr(),
-        &mut head,
-        b"try_engine: standard input",
-    );
-    if got.is_failed || got.count == 0 {
-        return false;
-    }
-    if got.count < request::HEAD {
-        return output::leave(rt.stderr(), b"the stream breaks off in a request");
-    }
+fn one(rt: HostRuntime) -> Result<(), Leave> {
+    let head: [u8; HEAD] = inputs::head(rt.stdin(), Leave::BrokenRequest)?;
     obey(rt, request::decode(&head))
 }
 
-// A proved loop has to end, and nothing says that the input does. So the loop counts its turns, up to a
-// number that no run uses up.
 fn main(rt: HostRuntime) {
-    for _ in 0..u64::MAX {
-        if !one(rt) {
-            return;
-        }
-    }
+    inputs::serve(rt.stderr(), b"try_engine", || one(rt));
 }

@@ -15,16 +15,17 @@
 // answers that no reader gives, as a refusal that the next call does not repeat.
 #![tactic(auto)]
 
-mod output;
+mod page;
 mod session;
+mod stop;
 mod words;
 
 ghost use Rattle.std.specs.Prelude.{◌≤◌};
 ghost use Rattle.try_gerber.specs.Words.{room_max};
 
 use aperture::Table;
-use inputs::Number;
 use std::env::Env;
+use stop::Stop;
 use words::read_list;
 
 const ROOM_MAX: usize = 65536;
@@ -34,126 +35,72 @@ const WORD_MAX: usize = 4096;
 
 const CHUNKS_WORD_MAX: usize = 131072;
 
-// How many bytes of the file are lent at a time, at most, and how many the page holds.
+// How many bytes of the file are lent at a time, at most.
 const BUFFER: usize = 65536;
 
 const CHUNKS_MAX: usize = 65536;
 
 const APERTURES_MAX: usize = 64;
 
-// The table, or that a number cannot be defined.
-#[derive(Drop)]
-struct Defined {
-    table: Table,
-    is_failed: bool,
-}
-
-// All apertures have the least setting: no stroke is drawn here.
-fn define(numbers: &[u64]) -> Defined {
+// The table of these apertures, unless one cannot be defined. All have the least setting: no stroke is drawn here.
+fn define(numbers: &[u64]) -> Option<Table> {
     let mut table = aperture::none();
-    let mut i = 0;
-    while i < numbers.len() {
-        let changed = aperture::define(table, numbers[i], 16, 1, 1);
-        let next = changed.table;
-        table = next;
+    for number in numbers {
+        let changed = aperture::define(table, *number, 16, 1, 1);
         if changed.refusal != limits::DONE {
-            return Defined {
-                table: table,
-                is_failed: true,
-            };
+            return None;
         }
-        i += 1;
+        table = changed.table;
     }
-    Defined {
-        table: table,
-        is_failed: false,
-    }
+    Some(table)
 }
 
 // The arrays to lend, of the path so many entries.
-fn lend(rt: HostRuntime, t: Table, unit: u64, room: usize, chunks: &[u64])
+fn lend(rt: HostRuntime, t: Table, unit: u64, room: usize, chunks: &[u64]) -> Result<(), Stop>
     requires { room ≤ room_max }
 {
     let mut path = [0i32; ROOM_MAX];
     let mut buf = [0u8; BUFFER];
-    let mut page = [0u8; BUFFER];
-    session::run(rt, t, unit, chunks, &mut buf, &mut path[..room], &mut page);
+    session::run(rt, t, unit, chunks, &mut buf, &mut path[..room])
 }
 
 // The chunks' lengths.
-fn with_chunks(rt: HostRuntime, t: Table, unit: u64, room: usize)
+fn with_chunks(rt: HostRuntime, t: Table, unit: u64, room: usize) -> Result<(), Stop>
     requires { room ≤ room_max }
 {
     let mut word = [0u8; CHUNKS_WORD_MAX];
-    let n = match rt.arg(4, &mut word) {
-        Ok(n) => n,
-        Err(e) => return tell::fail(rt.stderr(), b"try_gerber: CHUNKS", inputs::word_error(e)),
-    };
+    let n = rt.arg(4, &mut word).map_err(Stop::Chunks)?;
     let mut chunks = [0u64; CHUNKS_MAX];
-    let listed = read_list(&word[..n], &mut chunks);
-    if listed.is_wrong {
-        return output::tell(
-            rt.stderr(),
-            b"CHUNKS is no list of numbers with commas between",
-        );
-    }
-    let count = listed.count;
-    lend(rt, t, unit, room, &chunks[..count]);
+    let count = read_list(&word[..n], &mut chunks).ok_or(Stop::ChunksList)?;
+    lend(rt, t, unit, room, &chunks[..count])
 }
 
 // The apertures in use.
-fn with_apertures(rt: HostRuntime, unit: u64, room: usize)
+fn with_apertures(rt: HostRuntime, unit: u64, room: usize) -> Result<(), Stop>
     requires { room ≤ room_max }
 {
     let mut word = [0u8; WORD_MAX];
-    let n = match rt.arg(3, &mut word) {
-        Ok(n) => n,
-        Err(e) => return tell::fail(rt.stderr(), b"try_gerber: APERTURES", inputs::word_error(e)),
-    };
+    let n = rt.arg(3, &mut word).map_err(Stop::Apertures)?;
     let mut numbers = [0u64; APERTURES_MAX];
-    let listed = read_list(&word[..n], &mut numbers);
-    if listed.is_wrong {
-        return output::tell(
-            rt.stderr(),
-            b"APERTURES is no list of numbers with commas between",
-        );
-    }
-    let count = listed.count;
-    let defined = define(&numbers[..count]);
-    if defined.is_failed {
-        return output::tell(
-            rt.stderr(),
-            b"APERTURES has a number outside 10 to 41, or one twice",
-        );
-    }
-    let table = defined.table;
-    with_chunks(rt, table, unit, room);
+    let count = read_list(&word[..n], &mut numbers).ok_or(Stop::AperturesList)?;
+    let table = define(&numbers[..count]).ok_or(Stop::AperturesNumber)?;
+    with_chunks(rt, table, unit, room)
 }
 
-// The number that an argument is.
-fn number(rt: &impl Env, i: usize) -> Number {
-    let mut word = [0u8; WORD_MAX];
-    let Ok(n) = rt.arg(i, &mut word) else {
-        return Number::Wrong;
-    };
-    inputs::read_number(&word[..n])
+fn read(rt: HostRuntime) -> Result<(), Stop> {
+    if inputs::word_count(&rt) != 5 {
+        return Err(Stop::Form);
+    }
+    let unit = inputs::word_number(&rt, 1).map_err(|_| Stop::Unit)?;
+    let room = inputs::word_number(&rt, 2).map_err(|_| Stop::Room)?;
+    if (ROOM_MAX as u64) < room {
+        return Err(Stop::LargeRoom);
+    }
+    with_apertures(rt, unit, room as usize)
 }
 
 fn main(rt: HostRuntime) {
-    if inputs::word_count(&rt) != 5 {
-        return output::tell(
-            rt.stderr(),
-            b"usage: try_gerber N ROOM APERTURES CHUNKS <FILE",
-        );
+    if let Err(why) = read(rt) {
+        stop::tell(rt.stderr(), why);
     }
-    let Number::Value(unit) = number(&rt, 1) else {
-        return output::tell(rt.stderr(), b"N is no number below 2^64");
-    };
-    let Number::Value(room) = number(&rt, 2) else {
-        return output::tell(rt.stderr(), b"ROOM is no number below 2^64");
-    };
-    if (ROOM_MAX as u64) < room {
-        return output::tell(rt.stderr(), b"ROOM is at most 65536");
-    }
-    with_apertures(rt, unit, room as usize);
 }

@@ -1,15 +1,6 @@
 // The words of the command line that are lists of numbers.
-ghost use Rattle.std.specs.Prelude.{◌≤◌, length};
+ghost use Rattle.std.specs.Prelude.{◌≤◌, length, IfSome};
 ghost use Rattle.io.specs.Counts.{IsPrefixLen};
-
-use inputs::Number;
-
-// How many numbers a list has, or that a word is no list.
-#[derive(Drop)]
-pub struct Listed {
-    pub count: usize,
-    pub is_wrong: bool,
-}
 
 // The index of the next comma, or the text's length.
 fn comma_from(text: &[u8], at: usize) -> usize
@@ -17,52 +8,27 @@ fn comma_from(text: &[u8], at: usize) -> usize
     ensures lower_bound { at ≤ result }
     ensures upper_bound { result ≤ length text.now }
 {
-    let mut end = at;
-    while end < text.len() {
-        if text[end] == b',' {
-            return end;
-        }
-        end += 1;
-    }
-    end
+    (at..text.len())
+        .find(|i| text[*i] == b',')
+        .unwrap_or(text.len())
 }
 
-fn is_dash(text: &[u8]) -> bool {
-    if text.len() != 1 {
-        return false;
-    }
-    text[0] == b'-'
-}
-
-// The numbers of a text, with commas between; none where it is `-`.
-pub fn read_list(text: &[u8], list: &mut [u64]) -> Listed
-    ensures { IsPrefixLen result.count list.new }
+// How many numbers a text has, with commas between, and they go to the start of the list; none where it is `-`.
+// Nothing where it is no such text, or the list is too short.
+pub fn read_list(text: &[u8], list: &mut [u64]) -> Option<usize>
+    ensures { IfSome result (λ n. IsPrefixLen n list.new) }
 {
-    if is_dash(text) {
-        return Listed {
-            count: 0,
-            is_wrong: false,
-        };
+    if text == b"-".as_slice() {
+        return Some(0);
     }
     let mut at = 0;
-    let mut count = 0;
-    while count < list.len() {
+    for count in 0..list.len() {
         let end = comma_from(text, at);
-        let Number::Value(n) = inputs::read_number(&text[at..end]) else {
-            break;
-        };
-        list[count] = n;
-        count += 1;
+        list[count] = inputs::read_number(&text[at..end]).ok()?;
         if end == text.len() {
-            return Listed {
-                count: count,
-                is_wrong: false,
-            };
+            return Some(count + 1);
         }
         at = end + 1;
     }
-    Listed {
-        count: 0,
-        is_wrong: true,
-    }
+    None
 }

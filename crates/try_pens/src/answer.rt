@@ -25,13 +25,11 @@ pub fn encode(b: Built, out: &mut [u8; ANSWER_MAX]) -> usize
     ensures count { IsPrefixLen result out.new }
     ensures bytes { take result out.new ≡ answer b }
 {
-    let pen = b.pen;
-    out[0] = b.refusal as u8;
+    let Built { refusal, pen } = b;
+    out[0] = refusal as u8;
     out[1] = pen.count as u8;
-    let mut i = 0;
-    while i < pen.count {
+    for i in 0..pen.count {
         put(out, 2 * i + 2, pen.x[i], pen.y[i]);
-        i += 1;
     }
-    2 * i + 2
+    2 * pen.count + 2
 }

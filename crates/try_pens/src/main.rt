@@ -8,33 +8,20 @@
 
 mod answer;
 
-// Reads one setting and writes the answer to it. False where the input ends or a write fails.
-fn one(rt: HostRuntime) -> bool {
-    let mut bytes = [0u8; 24];
-    let got = inputs::fill(
-        rt.stdin(),
-        rt.stderr(),
-        &mut bytes,
-        b"try_pens: standard input",
-    );
-    if got.count < 24 {
-        return false;
-    }
+use inputs::Leave;
+
+// Reads one setting and writes the answer to it. Where a write fails, there is nothing to tell.
+fn one(rt: HostRuntime) -> Result<(), Leave> {
+    let bytes: [u8; 24] = inputs::record(rt.stdin())?;
     let w = wire::number(&bytes, 0);
     let p = wire::number(&bytes, 8);
     let q = wire::number(&bytes, 16);
     let b = pen::build(w, p, q);
     let mut out = [0u8; answer::ANSWER_MAX];
     let n = answer::encode(b, &mut out);
-    tell::put(rt.stdout(), &out[..n])
+    rt.write_all(&out[..n]).map_err(|_| Leave::End)
 }
 
-// A proved loop has to end, and nothing says that the input does. So the loop counts its turns, up to a
-// number that no run uses up.
 fn main(rt: HostRuntime) {
-    for _ in 0..u64::MAX {
-        if !one(rt) {
-            return;
-        }
-    }
+    inputs::serve(rt.stderr(), b"try_pens", || one(rt));
 }

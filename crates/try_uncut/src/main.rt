@@ -13,46 +13,43 @@
 // cannot be written, the tool ends, and tells it on standard error.
 #![tactic(auto)]
 
-mod output;
 mod request;
 
-use request::{PATH_MAX, Request};
+use extent::Extent;
+use inputs::Leave;
+use request::{HEAD, PATH_MAX, Request};
+use std::io::Stdout;
 
-// Reads as many bytes as there is room for.
-fn read(rt: HostRuntime, bytes: &mut [u8]) -> bool {
-    let got = inputs::fill(rt.stdin(), rt.stderr(), bytes, b"try_uncut: standard input");
-    if got.is_failed {
-        return false;
-    }
-    if got.count < bytes.len() {
-        return output::leave(rt.stderr(), b"the stream breaks off in a request");
-    }
-    true
+// 1 and the two columns, or three zeros for none, of eight bytes each.
+fn put_extent(out: Stdout, e: Option<Extent>) -> Result<(), Leave> {
+    let (some, first, last) = match e {
+        Some(Extent { first, last }) => (1u64, first, last),
+        None => (0, 0, 0),
+    };
+    inputs::put(out, &some.to_le_bytes())?;
+    inputs::put(out, &first.to_le_bytes())?;
+    inputs::put(out, &last.to_le_bytes())
 }
 
 // Asks how far the path's segment reaches, and writes what is answered.
-fn answer(rt: HostRuntime, r: Request, path: &[i32]) -> bool {
-    let defined = aperture::define(aperture::none(), r.defined, r.w, r.p, r.q);
-    let table = defined.table;
+fn answer(rt: HostRuntime, r: Request, path: &[i32]) -> Result<(), Leave> {
+    let table = aperture::define(aperture::none(), r.defined, r.w, r.p, r.q).table;
     let reached = uncut::reach(table, r.number, path, r.row);
-    let answer = reached.answer;
-    let extent = reached.extent;
-    output::put_answer(rt, answer) && output::put_extent(rt, extent)
+    inputs::put_answer(rt.stdout(), reached.answer)?;
+    put_extent(rt.stdout(), reached.extent)
 }
 
 // Reads the path that follows a head, and answers the request.
-fn read_on(rt: HostRuntime, r: Request, bytes: &mut [u8], path: &mut [i32]) -> bool {
-    if !read(rt, bytes) {
-        return false;
-    }
+fn read_on(rt: HostRuntime, r: Request, bytes: &mut [u8], path: &mut [i32]) -> Result<(), Leave> {
+    inputs::rest(rt.stdin(), bytes, Leave::BrokenRequest)?;
     wire::decode(bytes, path);
     answer(rt, r, path)
 }
 
-// Answers the request of a head. False where no other can follow.
-fn obey(rt: HostRuntime, r: Request) -> bool {
+// Answers the request of a head.
+fn obey(rt: HostRuntime, r: Request) -> Result<(), Leave> {
     if r.entries > PATH_MAX as u64 {
-        return output::leave(rt.stderr(), b"a request is too long for the tool");
+        return Err(Leave::LongRequest);
     }
     let n = r.entries as usize;
     let end = 4 * n;
@@ -62,29 +59,11 @@ fn obey(rt: HostRuntime, r: Request) -> bool {
 }
 
 // Reads one request and answers it.
-fn one(rt: HostRuntime) -> bool {
-    let mut head = [0u8; request::HEAD];
-    let got = inputs::fill(
-        rt.stdin(),
-        rt.stderr(),
-        &mut head,
-        b"try_uncut: standard input",
-    );
-    if got.is_failed || got.count == 0 {
-        return false;
-    }
-    if got.count < request::HEAD {
-        return output::leave(rt.stderr(), b"the stream breaks off in a request");
-    }
+fn one(rt: HostRuntime) -> Result<(), Leave> {
+    let head: [u8; HEAD] = inputs::head(rt.stdin(), Leave::BrokenRequest)?;
     obey(rt, request::decode(&head))
 }
 
-// A proved loop has to end, and nothing says that the input does. So the loop counts its turns, up to a
-// number that no run uses up.
 fn main(rt: HostRuntime) {
-    for _ in 0..u64::MAX {
-        if !one(rt) {
-            return;
-        }
-    }
+    inputs::serve(rt.stderr(), b"try_uncut", || one(rt));
 }

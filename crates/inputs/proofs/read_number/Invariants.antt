@@ -1,10 +1,7 @@
 -- In every turn what is left to read gives what the whole text gives.
-use Rattle.std.proofs.Common.{length, ◌-◌, ◌≡◌, drop}
-use Rattle.inputs.specs.Number.{read_on}
+use Rattle.std.proofs.Common.{length, ◌≡◌, drop, Ok}
+use Rattle.inputs.specs.Number.{read_on, number_of}
 use Rattle.inputs.proofs.read_number.Given as goal
 
-abbrev pub invariant-loop-i : goal.invariant-loop-i
-invariant-loop-i l = read_on l.number (drop l.i l.text) ≡ read_on l.initial.number l.text
-
-abbrev pub decreases-loop-i : goal.decreases-loop-i
-decreases-loop-i l = length l.text - l.i
+abbrev pub invariant-loop-b : goal.invariant-loop-b
+invariant-loop-b l = read_on (Ok l.n) (drop l.b-index l.text) ≡ read_on (Ok 0) l.text

@@ -14,10 +14,10 @@ pub slice_bounds-read-end-3 : goal.slice_bounds-read-end-3
 slice_bounds-read-end-3 c = sym (length-replicate {A = ℕ} 131073 0)
 
 pub slice_bounds-write_film-end : goal.slice_bounds-write_film-end
-slice_bounds-write_film-end c = sym (c.read-read.auto.apertures ∙ length-replicate {A = ℕ} 131072 0)
+slice_bounds-write_film-end c = sym (c.read.auto.apertures ∙ length-replicate {A = ℕ} 131072 0)
 
 pub slice_bounds-write_film-end-2 : goal.slice_bounds-write_film-end-2
-slice_bounds-write_film-end-2 c = sym (c.read-read.auto.starts ∙ length-replicate {A = ℕ} 131073 0)
+slice_bounds-write_film-end-2 c = sym (c.read.auto.starts ∙ length-replicate {A = ℕ} 131073 0)
 
 pub slice_bounds-write_film-end-3 : goal.slice_bounds-write_film-end-3
-slice_bounds-write_film-end-3 c = sym (c.read-read.auto.path ∙ length-replicate {A = ℤ} 524288 (pos 0))
+slice_bounds-write_film-end-3 c = sym (c.read.auto.path ∙ length-replicate {A = ℤ} 524288 (pos 0))

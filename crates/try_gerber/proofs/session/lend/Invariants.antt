@@ -1,5 +1,9 @@
 -- Each part has a byte at least.
+use Rattle.std.proofs.Common.{◌<◌, length}
 use Rattle.try_gerber.proofs.session.lend.Given as goal
 
-abbrev pub decreases-loop-left : goal.decreases-loop-left
-decreases-loop-left l = l.left
+abbrev pub invariant-loop-got : goal.invariant-loop-got
+invariant-loop-got l = 0 < length l.buf
+
+abbrev pub decreases-loop-got : goal.decreases-loop-got
+decreases-loop-got l = l.left

@@ -1,5 +1,5 @@
 -- The loop stores one corner after the other behind the two bytes that stand before it.
-use Rattle.std.proofs.Common.{◌≡◌, ◌+◌, ◌<◌, length, refl, ◌∙◌, arith, rules, w8}
+use Rattle.std.proofs.Common.{ℕ, ◌≡◌, ◌+◌, ◌*◌, ◌<◌, length, take, refl, sym, ap, ◌∙◌, arith, rules, w8}
 use Rattle.std.proofs.Math.ListN.{length-set}
 use Rattle.integers.proofs.Machine.{known}
 use Rattle.try_pens.proofs.Bytes.{begun, more, two_more}
@@ -19,4 +19,4 @@ pub returns-clause-bytes : goal.returns-clause-bytes
 returns-clause-bytes c =
     let e : c.loop-i.i ≡ c.args.b.pen.count = omega arith in
     let two : 0 + 1 < length c.args.out.now = omega (arith, c.requires.room) in
-    c.loop-i.invariant.held ∙ rw (two_more c.args.out.now 0, e) refl
+    ap (λ (n : ℕ). take (2 * n + 2) c.loop-i.out) (sym e) ∙ c.loop-i.invariant.held ∙ rw (two_more c.args.out.now 0, e) refl
