@@ -30,7 +30,7 @@ fn refused(
     path: &mut [i32],
     page: &mut Page,
 ) -> Stop {
-    if let Err(e) = writeln!(page, "refused {number} {place}") {
+    if let Err(e) = put_refused(page, number, place) {
         return Stop::Unwritten(e);
     }
     let again = gerber::feed(reader, t, chunk, path);
@@ -53,7 +53,13 @@ fn points_of(path: &[i32], first: usize, length: usize) -> Result<&[i32], Stop> 
     Ok(&path[first..first + length])
 }
 
-// The line of a stroke: a space before each x, a comma before each y.
+// The line of a refusal. A page may end behind its first word.
+fn put_refused(page: &mut Page, number: u64, place: u64) -> io::Result<()> {
+    page.write_all(b"refused")?;
+    writeln!(page, " {number} {place}")
+}
+
+// The line of a stroke: a space before each x, a comma before each y. A page may end behind a word, a mark or a sign.
 fn put_stroke(
     page: &mut Page,
     aperture: u64,
@@ -62,10 +68,16 @@ fn put_stroke(
     points: &[i32],
 ) -> io::Result<()> {
     let length = points.len();
-    write!(page, "stroke {aperture} {first} {length} {used}")?;
+    page.write_all(b"stroke")?;
+    write!(page, " {aperture} {first} {length} {used}")?;
     for (i, z) in points.iter().enumerate() {
-        let mark = if i % 2 == 0 { ' ' } else { ',' };
-        write!(page, "{mark}{z}")?;
+        let mark = if i % 2 == 0 { b" " } else { b"," };
+        page.write_all(mark)?;
+        if *z < 0 {
+            page.write_all(b"-")?;
+        }
+        let size = z.unsigned_abs();
+        write!(page, "{size}")?;
     }
     page.write_all(b"\n")
 }
@@ -172,7 +184,8 @@ fn read_all(
     }
 }
 
-// Reads standard input, a unit being so many nanometres, and tells what comes of it.
+// Reads standard input, a unit being so many nanometres, and tells what comes of it. Why it ends early is told
+// before the last page is written.
 pub fn run(
     rt: HostRuntime,
     t: Table,
@@ -183,8 +196,9 @@ pub fn run(
 ) -> Result<(), Stop>
     requires { 0 < length buf.old }
 {
-    let mut page = Page::new(rt.stdout());
-    let end = read_all(rt.stdin(), t, unit, chunks, buf, path, &mut page);
-    page.flush().map_err(Stop::Unwritten)?;
-    end
+    let mut page = Page::new(rt.stdout(), rt.stderr());
+    if let Err(why) = read_all(rt.stdin(), t, unit, chunks, buf, path, &mut page) {
+        crate::stop::tell(rt.stderr(), why);
+    }
+    page.flush().map_err(Stop::Unwritten)
 }

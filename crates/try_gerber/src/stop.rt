@@ -68,7 +68,9 @@ pub fn tell(told: Stderr, why: Stop) {
         Stop::Unread(e) => tell::fail(told, b"try_gerber: standard input", e),
         Stop::Unwritten(e) => tell::fail(told, b"try_gerber: standard output", e),
         _ => {
-            let _ = told.println(format_args!("try_gerber: {why}"));
+            tell::say(told, b"try_gerber: ");
+            let _ = told.print(&why);
+            tell::say(told, b"\n");
         }
     }
 }
