@@ -1,22 +1,11 @@
--- The y's of a path: the least and the greatest are taken together alike.
-use Prim.Native.Nat.{ℕ, zero, suc, ◌+◌, ◌-◌, ◌*◌, ◌/◌, ◌<◌, ◌≤◌}
+-- One pass over the y's of a path: the least and the greatest are taken together alike.
+use Prim.Native.Nat.{ℕ, zero, suc, ◌+◌, ◌-◌, ◌*◌, ◌%◌, ◌≤◌, ◌<◌}
 use native.Mathlib.Omega.{arith}
 use mathlib.Core.Path.{◌≡◌, refl, sym, ap, subst, ◌∙◌}
 use mathlib.Core.List.{List, [], ◌∷◌}
-use lib.ListN.{length, get_or}
+use lib.ListN.{length, get_or, drop, length-drop}
+use lib.Seq.{drop-cons}
 use lib.IntN.{ℤ, pos}
-use mathlib.Core.List.{map}
-use mathlib.Core.Bool.{true}
-use denote.Ref.{Bor}
-use Rattle.std.specs.List.{fold}
-use Rattle.std.specs.declared.option.Option.{Option}
-use Rattle.std.specs.declared.option.Option.TheVariants.{Some, None}
-use Rattle.std.specs.Option.{option_map, unwrap_or}
-use lib.Seq.{ext_get_or}
-use lib.ListN.{length-map}
-use Rattle.std.proofs.lemmas.List.{get_or-map}
-use Rattle.std.proofs.lemmas.List.Folds.{fold-map}
-use Rattle.std.specs.Iterator.Runs.{Run, IsStepByRun, IsSkipRun, ItemsMapTo}
 use Rattle.reach.specs.Reach.{of_ys}
 
 -- ---- what holds of the y's, for a way to take two together
@@ -42,23 +31,6 @@ module _ (f : ℤ → ℤ → ℤ) (z : ℤ) where
       (of_each P none two l (λ k m. let e : 2 * suc k + 1 ≡ suc (suc (2 * k + 1)) = omega arith in subst (λ (n : ℕ). P (get_or (x ∷ y ∷ l) n (pos 0))) e (h (suc k) (omega arith))))
 
 -- ---- the pass
--- every other entry is a y
-abbrev pub ys : List ℤ → List ℤ
-ys [] = []
-ys (x ∷ []) = []
-ys (x ∷ y ∷ l) = y ∷ ys l
-
-pub ys_length : (path : List ℤ) → length (ys path) ≡ length path / 2
-ys_length [] = refl
-ys_length (x ∷ []) = refl
-ys_length (x ∷ y ∷ l) = omega (arith, ys_length l)
-
-pub ys_at : (path : List ℤ) (k : ℕ) → k < length path / 2 → get_or (ys path) k (pos 0) ≡ get_or path (2 * k + 1) (pos 0)
-ys_at [] k h = absurd (omega arith)
-ys_at (x ∷ []) k h = absurd (omega arith)
-ys_at (x ∷ y ∷ l) zero h = refl
-ys_at (x ∷ y ∷ l) (suc k) h = let e : 2 * suc k + 1 ≡ suc (suc (2 * k + 1)) = omega arith in rw e (ys_at l k (omega arith))
-
 -- two are taken together in any order, and z changes nothing that it was taken together with
 pub record Together (f : ℤ → ℤ → ℤ) (z : ℤ) : Type 0 where
   pub assoc : (a b c : ℤ) → f (f a b) c ≡ f a (f b c)
@@ -76,51 +48,41 @@ module _ {f : ℤ → ℤ → ℤ} {z : ℤ} (t : Together f z) where
   all_taken_up (x ∷ []) = t.twice
   all_taken_up (x ∷ y ∷ l) = sym (t.assoc z y (of_ys f z l)) ∙ ap (λ (c : ℤ). f c (of_ys f z l)) (t.comm z y) ∙ t.assoc y z (of_ys f z l) ∙ ap (f y) (all_taken_up l)
 
-  -- from the front as from the back
-  from_front : (path : List ℤ) (a : ℤ) → f a z ≡ a → fold f a (ys path) ≡ f a (of_ys f z path)
+  -- y is what the y's before the entry i, which is a y, make
+  pub record Passed (path : List ℤ) (y : ℤ) (i : ℕ) : Type 0 where
+    pub odd : i % 2 ≡ 1
+    pub within : i ≤ length path + 1
+    pub rest : f y (of_ys f z (drop (i - 1) path)) ≡ of_ys f z path
+    pub up : f y z ≡ y
+
+  pub passed_none : (path : List ℤ) → Passed path z 1
+  passed_none path = record { odd = omega arith; within = omega arith; rest = all_taken_up path; up = t.twice }
+
+  -- one more
+  next_two : (path : List ℤ) (i : ℕ) → i % 2 ≡ 1 → i < length path → of_ys f z (drop (i - 1) path) ≡ f (get_or path i (pos 0)) (of_ys f z (drop (i + 2 - 1) path))
   unfolding of_ys
-  from_front [] a e = sym e
-  from_front (x ∷ []) a e = sym e
-  from_front (x ∷ y ∷ l) a e = from_front l (f a y) (taken_up a y e) ∙ t.assoc a y (of_ys f z l)
+  next_two path i o h =
+      let e : suc (i - 1) ≡ i = omega (arith, o) in
+      let g : suc i ≡ i + 2 - 1 = omega arith in
+      let d : drop (i - 1) path ≡ get_or path (i - 1) (pos 0) ∷ get_or path i (pos 0) ∷ drop (i + 2 - 1) path =
+      drop-cons path (i - 1) (pos 0) (omega arith) ∙ ap (λ (l : List ℤ). get_or path (i - 1) (pos 0) ∷ l) (ap (λ (n : ℕ). drop n path) e ∙ drop-cons path i (pos 0) h ∙ ap (λ (n : ℕ). get_or path i (pos 0) ∷ drop n path) g)
+      in
+      ap (of_ys f z) d
 
-  pub folded : (path : List ℤ) → fold f z (ys path) ≡ of_ys f z path
-  folded path = from_front path z t.twice ∙ all_taken_up path
+  pub passed_next : {path : List ℤ} {y : ℤ} {i : ℕ} {m : ℤ} → Passed path y i → i < length path → m ≡ f y (get_or path i (pos 0)) → Passed path m (i + 2)
+  passed_next {path} {y} {i} {m} d h e = record {
+    odd = omega (arith, d.odd);
+    within = omega arith;
+    rest = rw e (t.assoc y (get_or path i (pos 0)) (of_ys f z (drop (i + 2 - 1) path)) ∙ ap (f y) (sym (next_two path i d.odd h)) ∙ d.rest);
+    up = rw e (taken_up y (get_or path i (pos 0)) d.up);
+  }
 
--- ---- the entries that an iterator gives that skips the first and then steps by two
-same_now : (o : Option (Bor ℤ)) → option_map (λ (y : Bor ℤ). y.now) (option_map (λ (y : Bor ℤ). y) o) ≡ option_map (λ (y : Bor ℤ). y.now) o
-same_now None = refl
-same_now (Some y) = refl
+  -- all
+  at_end : (l : List ℤ) → length l ≤ 1 → of_ys f z l ≡ z
+  unfolding of_ys
+  at_end [] h = refl
+  at_end (x ∷ []) h = refl
+  at_end (x ∷ y ∷ l) h = absurd (omega arith)
 
-now_of : (o : Option (Bor ℤ)) {x : Bor ℤ} {v : ℤ} → option_map (λ (y : Bor ℤ). y) o ≡ Some x → option_map (λ (y : Bor ℤ). y.now) o ≡ Some v → x.now ≡ v
-now_of o e f = ap (λ (u : Option ℤ). unwrap_or u (pos 0)) (sym (ap (option_map (λ (y : Bor ℤ). y.now)) e) ∙ same_now o ∙ f)
-
-first_of : (l : List (Bor ℤ)) (k : ℕ) → k < length l → Bor ℤ
-first_of [] k h = absurd (omega arith)
-first_of (y ∷ l) k h = y
-
-module _ {S T U : Type 0} {sp : S → Option (Bor ℤ) → S → Type 0} {sq : T → Option (Bor ℤ) → T → Type 0} {sr : U → Option (Bor ℤ) → U → Type 0} (p : Run sp) (q : Run sq) (r : Run sr) (path rest : List ℤ)
-    (a : IsStepByRun p q 2) (b : IsSkipRun q r 1) (e : ItemsMapTo r (λ (y : Bor ℤ). y.now) rest) (same : rest ≡ path) (w : p.whole ≡ true) where
-  long : r.len ≡ length path
-  long = e.1 (b.0 ∙ a.0 ∙ w) ∙ ap length same
-
-  half : p.len ≡ length path / 2
-  half = omega (arith, long, a.1, a.2, a.3, b.1)
-
-  value : (k : ℕ) → k < p.len → option_map (λ (y : Bor ℤ). y.now) (p.at k) ≡ Some (get_or path (2 * k + 1) (pos 0))
-  value k h =
-      let i : 1 + k * 2 ≡ 2 * k + 1 = omega arith in
-      ap (option_map (λ (y : Bor ℤ). y.now)) (a.4 k ∙ b.3 (k * 2)) ∙ e.2 (1 + k * 2) (pos 0) (omega (arith, half, long, a.3, b.1)) ∙ ap (λ (l : List ℤ). Some (get_or l (1 + k * 2) (pos 0))) same ∙ ap (λ (j : ℕ). Some (get_or path j (pos 0))) i
-
-  item : (k : ℕ) → k < length (map (λ (y : Bor ℤ). y.now) p.items) → get_or (map (λ (y : Bor ℤ). y.now) p.items) k (pos 0) ≡ get_or (ys path) k (pos 0)
-  item k l =
-      let h : k < p.len = omega (arith, l, p.long, length-map p.items (λ (y : Bor ℤ). y.now)) in
-      let i : k < length p.items = omega (arith, h, p.long) in
-      let d = first_of p.items k i in
-      get_or-map (λ (y : Bor ℤ). y.now) p.items k d (pos 0) i ∙ now_of (p.at k) (p.reads k d h) (value k h) ∙ sym (ys_at path k (omega (arith, half)))
-
-  strided : map (λ (y : Bor ℤ). y.now) p.items ≡ ys path
-  strided = ext_get_or (pos 0) _ _ (omega (arith, length-map p.items (λ (y : Bor ℤ). y.now), p.long, half, ys_length path)) item
-
-  -- what a fold over them makes
-  pub chained : {f : ℤ → ℤ → ℤ} {z : ℤ} → Together f z → fold (λ (b : ℤ) (y : Bor ℤ). f b y.now) z p.items ≡ of_ys f z path
-  chained {f} {z} t = sym (fold-map f (λ (y : Bor ℤ). y.now) z p.items) ∙ ap (fold f z) strided ∙ folded t path
+  pub passed_all : {path : List ℤ} {y : ℤ} {i : ℕ} → Passed path y i → length path ≤ i → y ≡ of_ys f z path
+  passed_all {path} {y} {i} d h = sym d.up ∙ ap (f y) (sym (at_end (drop (i - 1) path) (omega (arith, d.odd, length-drop (i - 1) path)))) ∙ d.rest

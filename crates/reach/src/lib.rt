@@ -12,19 +12,19 @@ const FIRST_Y: usize = 1;
 pub fn least_y(path: &[i32]) -> i64
     ensures { result ≡ least_y path.now }
 {
-    let none = i64::from(limits::COORDINATE_MAX);
-    path.iter()
-        .skip(FIRST_Y)
-        .step_by(2)
-        .fold(none, |least, y| least.min(i64::from(*y)))
+    let mut least = i64::from(limits::COORDINATE_MAX);
+    for k in 0..path.len() / 2 {
+        least = least.min(i64::from(path[2 * k + FIRST_Y]));
+    }
+    least
 }
 
 pub fn greatest_y(path: &[i32]) -> i64
     ensures { result ≡ greatest_y path.now }
 {
-    let none = i64::from(limits::COORDINATE_MIN);
-    path.iter()
-        .skip(FIRST_Y)
-        .step_by(2)
-        .fold(none, |greatest, y| greatest.max(i64::from(*y)))
+    let mut greatest = i64::from(limits::COORDINATE_MIN);
+    for k in 0..path.len() / 2 {
+        greatest = greatest.max(i64::from(path[2 * k + FIRST_Y]));
+    }
+    greatest
 }

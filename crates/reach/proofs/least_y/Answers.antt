@@ -1,23 +1,26 @@
--- The iterator gives every other entry, which are the y's, and the closure takes two of them together.
-use Rattle.std.proofs.Common.{◌≡◌, ◌∙◌, Iter, ap, refl, rules, ℤ, pos, neg_ℤ, w64, to_z, of_z, fold}
+-- The least so far; one entry in two is a y.
+use Rattle.std.proofs.Common.{◌≡◌, ◌∙◌, ℕ, ◌+◌, ◌*◌, ◌<◌, ◌≤◌, length, get_or, subst, sym, arith, rules, ℤ, pos, w64, to_z, of_z}
 use Rattle.std.specs.Int.{int_min}
-use denote.Ref.{Bor}
-use Rattle.integers.specs.Compare.{min_z}
 use Rattle.integers.proofs.Greater.{int_min_is}
-use Rattle.integers.proofs.Machine.{read_back}
 use Rattle.limits.specs.Sizes.{coordinate_max}
-use Rattle.reach.proofs.Pass.{chained}
+use Rattle.reach.proofs.Pass.{Passed, passed_none, passed_next, passed_all}
 use Rattle.reach.proofs.Heights.{least_together}
 use Rattle.reach.proofs.least_y.Goals as goal
 
+pub loop-k-init : goal.loop-k-init
+loop-k-init c =
+    let none : to_z w64 (of_z w64 c.from-least.result) ≡ pos coordinate_max = search rules in
+    subst (λ (y : ℤ). Passed least_together c.args.path.now y 1) (sym none) (passed_none least_together c.args.path.now)
+
+pub loop-k-preserved : goal.loop-k-preserved
+loop-k-preserved c =
+    let path = c.args.path.now in
+    let k = c.loop-k.k in
+    let inside : 2 * k + 1 < length path = omega (arith, c.loop-k-test.true) in
+    let i : 2 * k + 1 + 2 ≡ 2 * (k + 1) + 1 = omega arith in
+    let next : (m : ℤ) → m ≡ int_min (to_z w64 c.loop-k.least-bits) (get_or path (2 * k + 1) (pos 0)) → Passed least_together path m (2 * (k + 1) + 1) =
+    λ m e. subst (λ (j : ℕ). Passed least_together path m j) i (passed_next least_together c.loop-k.invariant inside (e ∙ int_min_is (to_z w64 c.loop-k.least-bits) (get_or path (2 * k + 1) (pos 0)))) in
+    next _ (search rules)
+
 pub returns : goal.returns
-returns c =
-    let whole = c.fold.ensures.runs in
-    let steps = c.step_by.ensures.runs whole.0 whole.0.seen whole.1 in
-    let skips = c.skip.ensures.runs steps.0 steps.0.seen steps.1 in
-    let each = c.iter.ensures.runs skips.0 skips.0.seen in
-    let entries = ap (λ (i : Iter ℤ). i.rest.now) skips.1 ∙ c.iter.ensures.rest in
-    let folded = whole.3 (λ (b : ℤ) (y : Bor ℤ). min_z b y.now) (λ x y r f' called. let e : r ≡ int_min x y.now = search rules in (refl, e ∙ int_min_is x y.now)) in
-    let none : to_z w64 (of_z w64 c.from-none.result) ≡ pos coordinate_max = search rules in
-    read_back w64 c.fold.type_inv ∙ folded ∙ ap (λ (z : ℤ). fold (λ (b : ℤ) (y : Bor ℤ). min_z b y.now) z whole.0.items) none
-    ∙ chained whole.0 steps.0 skips.0 c.args.path.now _ steps.2 skips.2 each entries whole.2 least_together
+returns c = let past : length c.args.path.now ≤ 2 * c.loop-k.k + 1 = omega (arith, c.loop-k-test.false) in passed_all least_together c.loop-k.invariant past
