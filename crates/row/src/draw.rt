@@ -67,12 +67,12 @@ fn write_bits(runs: &mut [u16], bytes: &[u8], first: usize, end: usize) -> Answe
     requires bounded { Bounded (bit_at bytes.now) first end }
     ensures { record { answer = result; list = runs.new } ≡ given Passed (runs_offer (runs_of (bit_at bytes.now) end) runs.old) }
 {
-    let count = list_runs(bytes, first, end, &mut []);
+    let count = list_runs::<false>(bytes, first, end, &mut []);
     let room = checks::room_check(count, runs.len() / 2);
     let Verdict::Passed = room else {
         return checks::report(room);
     };
-    list_runs(bytes, first, end, runs);
+    list_runs::<true>(bytes, first, end, runs);
     checks::done(count)
 }
 
