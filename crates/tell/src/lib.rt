@@ -3,6 +3,7 @@
 #![tactic(auto)]
 
 ghost use Rattle.std.specs.Prelude.{◌≡◌, true, ◌≤◌, length};
+ghost use Rattle.tell.specs.Message.{message_of};
 
 use checks::Answer;
 use std::io::{Cursor, Error, Print, Stderr, Stdout, Write};
@@ -42,11 +43,15 @@ fn refused(told: Stderr, program: &[u8], answer: Answer) {
 
 // The message of an error of the system: std ends its text by the error's number, as in
 // "Is a directory (os error 21)".
-fn message(text: &[u8]) -> &[u8] {
-    match (0..text.len()).find(|i| text[*i..].starts_with(b" (os error ")) {
-        Some(end) => &text[..end],
-        None => text,
+fn message(text: &[u8]) -> &[u8]
+    ensures { result.now ≡ message_of text.now }
+{
+    for i in 0..text.len() {
+        if text[i..].starts_with(b" (os error ") {
+            return &text[..i];
+        }
     }
+    text
 }
 
 // Tells what failed, and the system's message of why, as "plot: standard input: Is a directory".

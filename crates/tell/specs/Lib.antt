@@ -1,0 +1,2 @@
+-- What the message of an error is.
+pub mod Message
