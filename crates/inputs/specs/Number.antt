@@ -1,5 +1,6 @@
 -- A number in a word: digits, in ASCII, that read as at most 2^64 - 1.
-use Rattle.std.specs.Prelude.{ℕ, ◌+◌, ◌*◌, ◌-◌, ◌&&◌, if◌then◌else◌, List, [], ◌∷◌, leb, Result, Ok, Err}
+use Rattle.std.specs.Prelude.{ℕ, ◌+◌, ◌*◌, ◌-◌, ◌&&◌, if◌then◌else◌, List, [], ◌∷◌, take, leb, Result, Ok, Err}
+use Rattle.std.specs.declared.env.FillError.{FillError}
 use Rattle.inputs.specs.declared.NumberError.{NumberError}
 use Rattle.inputs.specs.declared.NumberError.TheVariants.{Empty, Wrong}
 
@@ -26,3 +27,8 @@ read_on m (b ∷ l) = read_on (grown m b) l
 -- the number that a text is; Empty where the text is
 abbrev pub number_of : List ℕ → Result ℕ NumberError
 number_of l = read_on (Err Empty) l
+
+-- the number in a buffer for a word, of which so many bytes were filled; none in a word that is missing or too long
+abbrev pub number_in : List ℕ → Result ℕ FillError → Result ℕ NumberError
+number_in word (Ok n) = number_of (take n word)
+number_in word (Err e) = Err Wrong

@@ -2,9 +2,9 @@
 // requests, how a test tool is asked and answers.
 #![tactic(auto)]
 
-ghost use Rattle.std.specs.Prelude.{◌≡◌, IfOk};
+ghost use Rattle.std.specs.Prelude.{◌≡◌, ◌≤◌, length, IfOk};
 ghost use Rattle.io.specs.Counts.{IsPrefixLen};
-ghost use Rattle.inputs.specs.Number.{lengthened, number_of};
+ghost use Rattle.inputs.specs.Number.{lengthened, number_of, number_in};
 
 use std::env::{Env, FillError};
 use std::io;
@@ -51,11 +51,22 @@ pub fn read_number(text: &[u8]) -> Result<u64, NumberError>
     Ok(n)
 }
 
-// The number that a word of the command line is.
+// The number in a buffer for a word, of which so many bytes were filled: none in a word that is missing or too long.
+fn number_in(word: &[u8], filled: Result<usize, FillError>) -> Result<u64, NumberError>
+    requires { IfOk filled (λ n. n ≤ length word.now) }
+    ensures { result ≡ number_in word.now filled }
+{
+    match filled {
+        Ok(n) => read_number(&word[..n]),
+        Err(_) => Err(NumberError::Wrong),
+    }
+}
+
+// The number that a word of the command line is. What words there are no contract can say.
 pub fn word_number(rt: &impl Env, i: usize) -> Result<u64, NumberError> {
     let mut word = [0u8; WORD_MAX];
-    let n = rt.arg(i, &mut word).map_err(|_| NumberError::Wrong)?;
-    read_number(&word[..n])
+    let filled = rt.arg(i, &mut word);
+    number_in(&word, filled)
 }
 
 // Fills buf from standard input, as far as that has bytes, and answers how many came. A read that fails
