@@ -1,2 +1,3 @@
--- Reading: a number read byte by byte.
+-- Reading: a number read byte by byte. Stream: what is read and written in parts.
 pub mod Reading
+pub mod Stream

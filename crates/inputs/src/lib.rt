@@ -2,7 +2,8 @@
 // requests, how a test tool is asked and answers.
 #![tactic(auto)]
 
-ghost use Rattle.std.specs.Prelude.{◌≡◌, ◌≤◌, length, IfOk};
+ghost use Rattle.std.specs.Prelude.{◌≡◌, ◌<◌, ◌≤◌, length, take, IfOk};
+ghost use Rattle.std.specs.Io.KnownBytes.{Consumes, IsAtEnd};
 ghost use Rattle.io.specs.Counts.{IsPrefixLen};
 ghost use Rattle.inputs.specs.Number.{lengthened, number_of, number_in};
 
@@ -12,7 +13,7 @@ use std::io::{Read, Stdin};
 
 mod requests;
 
-pub use requests::{Leave, head, put, put_answer, put_list, record, rest, serve};
+pub use requests::{Leave, head, put, put_answer, put_list, put_number, record, rest, serve};
 
 // How many bytes of a word are read for a number: a longer one is no number.
 const WORD_MAX: usize = 4096;
@@ -69,10 +70,12 @@ pub fn word_number(rt: &impl Env, i: usize) -> Result<u64, NumberError> {
     number_in(&word, filled)
 }
 
-// Fills buf from standard input, as far as that has bytes, and answers how many came. A read that fails
-// never passes for the end.
-pub fn fill(mut input: Stdin, buf: &mut [u8]) -> io::Result<usize>
-    ensures { IfOk result (λ n. IsPrefixLen n buf.new) }
+// Fills buf from a reader, as far as that has bytes, and answers how many came. A read that fails never passes
+// for the end.
+fn fill_from<R: Read>(input: &mut R, buf: &mut [u8]) -> io::Result<usize>
+    ensures count { IfOk result (λ n. IsPrefixLen n buf.new) }
+    ensures bytes { IfOk result (λ n. Consumes (R.remaining input.old) (R.remaining input.new) (take n buf.new)) }
+    ensures all { IfOk result (λ n. n < length buf.new → IsAtEnd (R.remaining input.new)) }
 {
     let mut done = 0;
     while done < buf.len() {
@@ -82,6 +85,13 @@ pub fn fill(mut input: Stdin, buf: &mut [u8]) -> io::Result<usize>
         }
     }
     Ok(done)
+}
+
+// Fills buf from standard input.
+pub fn fill(mut input: Stdin, buf: &mut [u8]) -> io::Result<usize>
+    ensures { IfOk result (λ n. IsPrefixLen n buf.new) }
+{
+    fill_from(&mut input, buf)
 }
 
 // Why a word could not be read, as an error of the system.

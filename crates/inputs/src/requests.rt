@@ -1,8 +1,12 @@
 // Requests on standard input, each answered on standard output, as a test tool has them.
-ghost use Rattle.std.specs.Prelude.{◌≤◌, ◌<◌, ◌*◌, ◌^◌, length};
+ghost use Rattle.std.specs.Prelude.{◌≡◌, ◌≤◌, ◌<◌, ◌*◌, ◌^◌, length, IfOk, OnOk, IfErr, IsOkUnless};
+ghost use Rattle.std.specs.Io.KnownBytes.{Consumes, Appends};
+ghost use Rattle.wire.specs.Write.{word_bytes, number_bytes};
+ghost use Rattle.inputs.specs.declared.requests.Leave.TheVariants.{Unread};
+ghost use Rattle.inputs.specs.Stream.{Served, begun, NoHead, NoRest, answer_bytes};
 
 use checks::Answer;
-use std::io::{Print, Stderr, Stdin, Stdout};
+use std::io::{Print, Read, Stderr, Write};
 use std::{fmt, io};
 
 // Why a stream of requests is left: it has ended, which is nothing to tell, or cannot be read; it breaks off; an
@@ -22,6 +26,8 @@ pub enum Leave {
 }
 
 impl From<io::Error> for Leave {
+    ghost from_gives = { λ e why. why ≡ Unread e };
+
     fn from(e: io::Error) -> Leave {
         Leave::Unread(e)
     }
@@ -65,8 +71,9 @@ fn tell_leave(told: Stderr, program: &[u8], why: Leave) {
 // number that no run uses up.
 pub fn serve<F: FnMut() -> Result<(), Leave>>(told: Stderr, program: &[u8], mut one: F)
     requires { F.IsAlwaysCallable one }
+    ensures { Served F.step u64.MAX one }
 {
-    for _ in 0..u64::MAX {
+    for _turn in 0..u64::MAX {
         if let Err(why) = one() {
             return tell_leave(told, program, why);
         }
@@ -74,48 +81,78 @@ pub fn serve<F: FnMut() -> Result<(), Leave>>(told: Stderr, program: &[u8], mut 
 }
 
 // A record of so many bytes. An incomplete one at the end is ignored.
-pub fn record<const N: usize>(input: Stdin) -> Result<[u8; N], Leave> {
+pub fn record<R: Read, const N: usize>(input: &mut R) -> Result<[u8; N], Leave>
+    ensures whole { IfOk result (λ bytes. Consumes (R.remaining input.old) (R.remaining input.new) bytes) }
+    ensures none { IfErr result (λ why. NoRest Leave.End why (R.remaining input.new)) }
+{
     let mut bytes = [0u8; N];
-    if crate::fill(input, &mut bytes)? < N {
-        return Err(Leave::End);
+    rest(input, &mut bytes, Leave::End)?;
+    Ok(bytes)
+}
+
+// What n bytes that came of a head, and not all of it, tell of the stream.
+fn begun(n: usize, broken: Leave) -> Leave
+    ensures { result ≡ begun n broken }
+{
+    if n == 0 { Leave::End } else { broken }
+}
+
+// The head of the next request, of so many bytes.
+pub fn head<R: Read, const N: usize>(input: &mut R, broken: Leave) -> Result<[u8; N], Leave>
+    ensures whole { IfOk result (λ bytes. Consumes (R.remaining input.old) (R.remaining input.new) bytes) }
+    ensures none { IfErr result (λ why. NoHead broken why (R.remaining input.old) (R.remaining input.new)) }
+{
+    let mut bytes = [0u8; N];
+    let n = crate::fill_from(input, &mut bytes)?;
+    if n < N {
+        return Err(begun(n, broken));
     }
     Ok(bytes)
 }
 
-// The head of the next request, of so many bytes.
-pub fn head<const N: usize>(input: Stdin, broken: Leave) -> Result<[u8; N], Leave> {
-    let mut bytes = [0u8; N];
-    match crate::fill(input, &mut bytes)? {
-        0 => Err(Leave::End),
-        n if n < N => Err(broken),
-        _ => Ok(bytes),
-    }
-}
-
 // What follows a head: as many bytes as there is room for.
-pub fn rest(input: Stdin, bytes: &mut [u8], broken: Leave) -> Result<(), Leave> {
-    if crate::fill(input, bytes)? < bytes.len() {
+pub fn rest<R: Read>(input: &mut R, bytes: &mut [u8], broken: Leave) -> Result<(), Leave>
+    ensures whole { OnOk result (Consumes (R.remaining input.old) (R.remaining input.new) bytes.new) }
+    ensures none { IfErr result (λ why. NoRest broken why (R.remaining input.new)) }
+{
+    if crate::fill_from(input, bytes)? < bytes.len() {
         return Err(broken);
     }
     Ok(())
 }
 
 // A part of an answer.
-pub fn put(out: Stdout, bytes: &[u8]) -> Result<(), Leave> {
-    Print::write_all(&out, bytes).map_err(|_| Leave::Unwritten)
+pub fn put<W: Write>(out: &mut W, bytes: &[u8]) -> Result<(), Leave>
+    ensures written { OnOk result (Appends (W.contents out.old) (W.contents out.new) bytes.now) }
+    ensures not { IsOkUnless result Leave.Unwritten }
+{
+    out.write_all(bytes).map_err(|_| Leave::Unwritten)
 }
 
-// Refusal, place and count, of eight bytes each, lowest byte first.
-pub fn put_answer(out: Stdout, a: Answer) -> Result<(), Leave> {
-    put(out, &a.refusal.to_le_bytes())?;
-    put(out, &a.place.to_le_bytes())?;
-    put(out, &a.count.to_le_bytes())
+// A number of eight bytes, lowest byte first.
+pub fn put_number<W: Write>(out: &mut W, n: u64) -> Result<(), Leave>
+    ensures written { OnOk result (Appends (W.contents out.old) (W.contents out.new) (number_bytes n)) }
+    ensures not { IsOkUnless result Leave.Unwritten }
+{
+    put(out, &wire::number_bytes(n))
+}
+
+// Refusal, place and count, of eight bytes each.
+pub fn put_answer<W: Write>(out: &mut W, a: Answer) -> Result<(), Leave>
+    ensures written { OnOk result (Appends (W.contents out.old) (W.contents out.new) (answer_bytes a)) }
+    ensures not { IsOkUnless result Leave.Unwritten }
+{
+    put_number(out, a.refusal)?;
+    put_number(out, a.place)?;
+    put_number(out, a.count)
 }
 
 // A list, two bytes to a number, of at most so many bytes.
-pub fn put_list<const BYTES: usize>(out: Stdout, list: &[u16]) -> Result<(), Leave>
+pub fn put_list<W: Write, const BYTES: usize>(out: &mut W, list: &[u16]) -> Result<(), Leave>
     requires room { 2 * length list.now ≤ BYTES }
     requires held { BYTES < 2 ^ 63 }
+    ensures written { OnOk result (Appends (W.contents out.old) (W.contents out.new) (word_bytes list.now)) }
+    ensures not { IsOkUnless result Leave.Unwritten }
 {
     let mut bytes = [0u8; BYTES];
     let n = list.len();

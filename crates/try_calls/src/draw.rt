@@ -8,6 +8,8 @@ use crate::pattern;
 use aperture::Table;
 use inputs::Leave;
 use records::Run;
+use std::io;
+use std::io::Write;
 
 // How many bytes a list's numbers have at most, two to a number.
 const BYTES_MAX: usize = 2 * ROOM_MAX;
@@ -19,8 +21,9 @@ fn row(rt: HostRuntime, t: Table, c: Command, path: &[i32], list: &mut [u16]) ->
 {
     pattern::fill(list);
     let answer = row::row_runs(t, c.number, path, c.a, c.b, c.c, list);
-    inputs::put_answer(rt.stdout(), answer)?;
-    inputs::put_list::<BYTES_MAX>(rt.stdout(), list)
+    let mut out = io::writer(&rt);
+    inputs::put_answer(&mut out, answer)?;
+    inputs::put_list::<_, BYTES_MAX>(&mut out, list)
 }
 
 fn packed(
@@ -34,12 +37,13 @@ fn packed(
 {
     pattern::fill(bytes);
     let answer = packed::packed_row(t, c.number, path, c.a, c.b, c.c, bytes);
-    inputs::put_answer(rt.stdout(), answer)?;
-    inputs::put(rt.stdout(), bytes)
+    let mut out = io::writer(&rt);
+    inputs::put_answer(&mut out, answer)?;
+    inputs::put(&mut out, bytes)
 }
 
 // Two numbers to a record.
-fn put_records(rt: HostRuntime, list: &[Run]) -> Result<(), Leave>
+fn put_records<W: Write>(out: &mut W, list: &[Run]) -> Result<(), Leave>
     requires { length list.now ≤ records_max }
 {
     let mut numbers = [0u16; ROOM_MAX];
@@ -47,7 +51,7 @@ fn put_records(rt: HostRuntime, list: &[Run]) -> Result<(), Leave>
         numbers[2 * i] = run.left;
         numbers[2 * i + 1] = run.right;
     }
-    inputs::put_list::<BYTES_MAX>(rt.stdout(), &numbers[..2 * list.len()])
+    inputs::put_list::<_, BYTES_MAX>(out, &numbers[..2 * list.len()])
 }
 
 fn records(
@@ -61,8 +65,9 @@ fn records(
 {
     pattern::fill(list);
     let answer = records::row_records(t, c.number, path, c.a, c.b, c.c, list);
-    inputs::put_answer(rt.stdout(), answer)?;
-    put_records(rt, list)
+    let mut out = io::writer(&rt);
+    inputs::put_answer(&mut out, answer)?;
+    put_records(&mut out, list)
 }
 
 // Makes a call that draws, with so much room.
@@ -107,7 +112,7 @@ fn call_on(
 ) -> Result<(), Leave>
     requires { room ≤ room_max }
 {
-    inputs::rest(rt.stdin(), bytes, Leave::BrokenPath)?;
+    inputs::rest(&mut rt.stdin(), bytes, Leave::BrokenPath)?;
     wire::decode(bytes, path);
     call(rt, t, form, c, path, room)
 }

@@ -21,6 +21,7 @@ mod pattern;
 use aperture::Table;
 use command::{Command, HEAD, Kind};
 use inputs::Leave;
+use std::io;
 
 // Obeys a command.
 fn obey(rt: HostRuntime, t: &mut Table, c: Command) -> Result<(), Leave> {
@@ -41,12 +42,12 @@ fn obey(rt: HostRuntime, t: &mut Table, c: Command) -> Result<(), Leave> {
         }
         Kind::Draw(form) => return draw::draw(rt, *t, form, c),
     };
-    inputs::put(rt.stdout(), &refusal.to_le_bytes())
+    inputs::put_number(&mut io::writer(&rt), refusal)
 }
 
 // Reads one command and obeys it.
 fn one(rt: HostRuntime, t: &mut Table) -> Result<(), Leave> {
-    let head: [u8; HEAD] = inputs::head(rt.stdin(), Leave::BrokenCommand)?;
+    let head: [u8; HEAD] = inputs::head(&mut rt.stdin(), Leave::BrokenCommand)?;
     obey(rt, t, command::decode(&head)?)
 }
 

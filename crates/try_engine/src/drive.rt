@@ -4,6 +4,7 @@ ghost use Rattle.try_engine.specs.Request.{room_max};
 
 use engine::Engine;
 use inputs::Leave;
+use std::io;
 
 // How many numbers a step is lent at most.
 const ROOM_MAX: usize = 8;
@@ -21,8 +22,9 @@ fn step(rt: HostRuntime, e: &mut Engine, list: &mut [u16]) -> Result<(), Leave>
 {
     let stepped = engine::step(*e, list);
     *e = stepped.engine;
-    inputs::put_answer(rt.stdout(), stepped.answer)?;
-    inputs::put_list::<BYTES_MAX>(rt.stdout(), list)
+    let mut out = io::writer(&rt);
+    inputs::put_answer(&mut out, stepped.answer)?;
+    inputs::put_list::<_, BYTES_MAX>(&mut out, list)
 }
 
 // Makes a step for each room, unless one is more than there is.

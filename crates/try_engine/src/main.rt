@@ -20,12 +20,13 @@ mod request;
 
 use inputs::Leave;
 use request::{HEAD, PATH_MAX, Request, STEPS_MAX};
+use std::io;
 
 // Starts an engine and makes its steps.
 fn answer(rt: HostRuntime, r: Request, path: &[i32], rooms: &[u8]) -> Result<(), Leave> {
     let table = aperture::define(aperture::none(), r.defined, r.w, r.p, r.q).table;
     let started = engine::start(table, r.number, path, r.columns, r.rows, r.row);
-    inputs::put_answer(rt.stdout(), started.answer)?;
+    inputs::put_answer(&mut io::writer(&rt), started.answer)?;
     drive::drive(rt, started.engine, rooms)
 }
 
@@ -37,8 +38,8 @@ fn read_on(
     path: &mut [i32],
     rooms: &mut [u8],
 ) -> Result<(), Leave> {
-    inputs::rest(rt.stdin(), bytes, Leave::BrokenRequest)?;
-    inputs::rest(rt.stdin(), rooms, Leave::BrokenRequest)?;
+    inputs::rest(&mut rt.stdin(), bytes, Leave::BrokenRequest)?;
+    inputs::rest(&mut rt.stdin(), rooms, Leave::BrokenRequest)?;
     wire::decode(bytes, path);
     answer(rt, r, path, rooms)
 }
@@ -65,7 +66,7 @@ fn obey(rt: HostRuntime, r: Request) -> Result<(), Leave> {
 
 // Reads one request and answers it.
 fn one(rt: HostRuntime) -> Result<(), Leave> {
-    let head: [u8; HEAD] = inputs::head(rt.stdin(), Leave::BrokenRequest)?;
+    let head: [u8; HEAD] = inputs::head(&mut rt.stdin(), Leave::BrokenRequest)?;
     obey(rt, request::decode(&head))
 }
 

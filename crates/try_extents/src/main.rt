@@ -30,7 +30,7 @@ fn write(to: Stdout, s: &[u8], pen: Pen) -> Result<(), Leave> {
 
 // Reads one record and writes the answer to it.
 fn one(rt: HostRuntime) -> Result<(), Leave> {
-    let bytes: [u8; 48] = inputs::record(rt.stdin())?;
+    let bytes: [u8; 48] = inputs::record(&mut rt.stdin())?;
     let w = wire::number(&bytes, 0);
     let p = wire::number(&bytes, 8);
     let q = wire::number(&bytes, 16);

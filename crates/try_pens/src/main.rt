@@ -12,7 +12,7 @@ use inputs::Leave;
 
 // Reads one setting and writes the answer to it. Where a write fails, there is nothing to tell.
 fn one(rt: HostRuntime) -> Result<(), Leave> {
-    let bytes: [u8; 24] = inputs::record(rt.stdin())?;
+    let bytes: [u8; 24] = inputs::record(&mut rt.stdin())?;
     let w = wire::number(&bytes, 0);
     let p = wire::number(&bytes, 8);
     let q = wire::number(&bytes, 16);

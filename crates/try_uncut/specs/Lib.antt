@@ -1,2 +1,3 @@
--- What the tool reads.
+-- What the tool reads, and what it writes.
 pub mod Request
+pub mod Answer

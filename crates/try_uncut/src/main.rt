@@ -13,35 +13,49 @@
 // cannot be written, the tool ends, and tells it on standard error.
 #![tactic(auto)]
 
+ghost use Rattle.std.specs.Prelude.{OnOk};
+ghost use Rattle.std.specs.Io.KnownBytes.{Appends};
+ghost use Rattle.try_uncut.specs.Answer.{three_bytes, extent_bytes};
+
 mod request;
 
 use extent::Extent;
 use inputs::Leave;
 use request::{HEAD, PATH_MAX, Request};
-use std::io::Stdout;
+use std::io;
+use std::io::Write;
 
-// 1 and the two columns, or three zeros for none, of eight bytes each.
-fn put_extent(out: Stdout, e: Option<Extent>) -> Result<(), Leave> {
-    let (some, first, last) = match e {
-        Some(Extent { first, last }) => (1u64, first, last),
-        None => (0, 0, 0),
-    };
-    inputs::put(out, &some.to_le_bytes())?;
-    inputs::put(out, &first.to_le_bytes())?;
-    inputs::put(out, &last.to_le_bytes())
+// Three numbers of eight bytes each, two of them in two's complement.
+fn put_three<W: Write>(out: &mut W, some: u64, first: i64, last: i64) -> Result<(), Leave>
+    ensures { OnOk result (Appends (W.contents out.old) (W.contents out.new) (three_bytes some first last)) }
+{
+    inputs::put(out, &wire::number_bytes(some))?;
+    inputs::put(out, &wire::eight(first))?;
+    inputs::put(out, &wire::eight(last))
+}
+
+// 1 and the two columns, or three zeros for none.
+fn put_extent<W: Write>(out: &mut W, e: Option<Extent>) -> Result<(), Leave>
+    ensures { OnOk result (Appends (W.contents out.old) (W.contents out.new) (extent_bytes e)) }
+{
+    match e {
+        Some(Extent { first, last }) => put_three(out, 1, first, last),
+        None => put_three(out, 0, 0, 0),
+    }
 }
 
 // Asks how far the path's segment reaches, and writes what is answered.
 fn answer(rt: HostRuntime, r: Request, path: &[i32]) -> Result<(), Leave> {
     let table = aperture::define(aperture::none(), r.defined, r.w, r.p, r.q).table;
     let reached = uncut::reach(table, r.number, path, r.row);
-    inputs::put_answer(rt.stdout(), reached.answer)?;
-    put_extent(rt.stdout(), reached.extent)
+    let mut out = io::writer(&rt);
+    inputs::put_answer(&mut out, reached.answer)?;
+    put_extent(&mut out, reached.extent)
 }
 
 // Reads the path that follows a head, and answers the request.
 fn read_on(rt: HostRuntime, r: Request, bytes: &mut [u8], path: &mut [i32]) -> Result<(), Leave> {
-    inputs::rest(rt.stdin(), bytes, Leave::BrokenRequest)?;
+    inputs::rest(&mut rt.stdin(), bytes, Leave::BrokenRequest)?;
     wire::decode(bytes, path);
     answer(rt, r, path)
 }
@@ -60,7 +74,7 @@ fn obey(rt: HostRuntime, r: Request) -> Result<(), Leave> {
 
 // Reads one request and answers it.
 fn one(rt: HostRuntime) -> Result<(), Leave> {
-    let head: [u8; HEAD] = inputs::head(rt.stdin(), Leave::BrokenRequest)?;
+    let head: [u8; HEAD] = inputs::head(&mut rt.stdin(), Leave::BrokenRequest)?;
     obey(rt, request::decode(&head))
 }
 

@@ -1,6 +1,6 @@
 -- In every turn what is left to read gives what the whole text gives.
-use Rattle.std.proofs.Common.{length, ◌≡◌, drop, Ok}
-use Rattle.inputs.specs.Number.{read_on, number_of}
+use Rattle.std.proofs.Common.{◌≡◌, drop, Ok}
+use Rattle.inputs.specs.Number.{read_on}
 use Rattle.inputs.proofs.read_number.Given as goal
 
 abbrev pub invariant-loop-b : goal.invariant-loop-b
