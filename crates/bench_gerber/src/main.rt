@@ -94,11 +94,12 @@ fn main(rt: HostRuntime) {
         strokes,
         entries,
     } = tally;
-    let _ = print!(rt; "{strokes} strokes, {entries} entries, ");
-    let _ = match gerber::finish(reader).given {
-        Given::More => println!(rt; "more"),
-        Given::Stroke(_, _, _) => println!(rt; "a stroke"),
-        Given::Done => println!(rt; "done"),
-        Given::Refused(number, _) => println!(rt; "refused {number}"),
-    };
+    let out = rt.stdout();
+    tell::piecewise(out, format_args!("{strokes} strokes, {entries} entries, "));
+    match gerber::finish(reader).given {
+        Given::More => tell::piecewise(out, "more\n"),
+        Given::Stroke(_, _, _) => tell::piecewise(out, "a stroke\n"),
+        Given::Done => tell::piecewise(out, "done\n"),
+        Given::Refused(number, _) => tell::piecewise(out, format_args!("refused {number}\n")),
+    }
 }

@@ -6,7 +6,7 @@ ghost use Rattle.inputs.specs.declared.requests.Leave.TheVariants.{Unread};
 ghost use Rattle.inputs.specs.Stream.{Served, begun, NoHead, NoRest, answer_bytes};
 
 use checks::Answer;
-use std::io::{Print, Read, Stderr, Write};
+use std::io::{Read, Stderr, Write};
 use std::{fmt, io};
 
 // Why a stream of requests is left: it has ended, which is nothing to tell, or cannot be read; it breaks off; an
@@ -52,30 +52,33 @@ impl fmt::Display for Leave {
 }
 
 // Tells why, in the name of the program.
-fn tell_leave(told: Stderr, program: &[u8], why: Leave) {
+fn tell_leave(told: Stderr, program: &[u8], input: &[u8], why: Leave) {
     match why {
         Leave::End => (),
-        Leave::Unread(e) => {
-            tell::say(told, program);
-            tell::fail(told, b": standard input", e);
-        }
+        Leave::Unread(e) => tell::fail(told, input, e),
         _ => {
             tell::say(told, program);
-            let _ = told.println(format_args!(": {why}"));
+            tell::piecewise(told, format_args!("{why}\n"));
         }
     }
 }
 
-// Answers requests until no other can follow, and tells in the name of the program why.
+// Answers requests until no other can follow, and tells why: behind the name of the program, as "try_pens: "; or,
+// where a read failed, behind that of its input, as "try_pens: standard input".
 // A proved loop has to end, and nothing says that the input does. So the loop counts its turns, up to a
 // number that no run uses up.
-pub fn serve<F: FnMut() -> Result<(), Leave>>(told: Stderr, program: &[u8], mut one: F)
+pub fn serve<F: FnMut() -> Result<(), Leave>>(
+    told: Stderr,
+    program: &[u8],
+    input: &[u8],
+    mut one: F,
+)
     requires { F.IsAlwaysCallable one }
     ensures { Served F.step u64.MAX one }
 {
     for _turn in 0..u64::MAX {
         if let Err(why) = one() {
-            return tell_leave(told, program, why);
+            return tell_leave(told, program, input, why);
         }
     }
 }

@@ -28,47 +28,68 @@ impl From<io::Error> for NoFilm {
     }
 }
 
-// Bytes count from 0, settings, lines and columns from 1.
+// As "plot: 4 at ", with which every refusal starts.
+#[derive(Clone, Copy)]
+struct Start(u64);
+
+impl fmt::Display for Start {
+    fn fmt<W: fmt::Write>(&self, f: &mut fmt::Formatter<W>) -> fmt::Result {
+        let number = self.0;
+        write!(f, "plot: {number} at ")
+    }
+}
+
+// What is told without a number.
+fn put_line<W: fmt::Write>(f: &mut fmt::Formatter<W>, why: &str) -> fmt::Result {
+    writeln!(f, "plot: {why}")
+}
+
+// A line of its own, but for a read that failed. Bytes count from 0, settings, lines and columns from 1.
 impl fmt::Display for NoFilm {
     fn fmt<W: fmt::Write>(&self, f: &mut fmt::Formatter<W>) -> fmt::Result {
         match self {
             NoFilm::Form => f.write_str(
-                "usage: plot [rows FIRST COUNT] N COLUMNS ROWS W P Q [W P Q ..] <GERBER >FILM",
+                "usage: plot [rows FIRST COUNT] N COLUMNS ROWS W P Q [W P Q ..] <GERBER >FILM\n",
             ),
-            NoFilm::Settings => f.write_str("plot: more than 32 settings"),
-            NoFilm::Word(word) => write!(f, "plot: word {word} is no number below 2^64"),
+            NoFilm::Settings => put_line(f, "more than 32 settings"),
+            NoFilm::Word(word) => write!(f, "plot: word {word} is no number below 2^64\n"),
             NoFilm::Setting(number, place) => {
+                let start = Start(*number);
                 let setting = place.wrapping_add(1);
                 write!(
                     f,
-                    "plot: {number} at setting {setting}: outside the limits: W and W P / Q are 16 to 512, P and Q 1 to 16"
+                    "{start}setting {setting}: outside the limits: W and W P / Q are 16 to 512, P and Q 1 to 16\n"
                 )
             }
             NoFilm::Unit => {
-                let number = limits::BAD_SETTING;
+                let start = Start(limits::BAD_SETTING);
                 write!(
                     f,
-                    "plot: {number} at N: outside the limits: a unit is 1 to 1,000,000 nanometres"
+                    "{start}N: outside the limits: a unit is 1 to 1,000,000 nanometres\n"
                 )
             }
-            NoFilm::Raster(number) => write!(
-                f,
-                "plot: {number} at COLUMNS or ROWS: outside the limits: each is 1 to 16,384"
-            ),
-            NoFilm::Rows(number) => write!(
-                f,
-                "plot: {number} at FIRST or COUNT: the film has no such rows"
-            ),
-            NoFilm::File(number, mark, is_end) => {
-                let Mark { at, line, column } = *mark;
-                let meaning = meaning(*number, *is_end);
+            NoFilm::Raster(number) => {
+                let start = Start(*number);
                 write!(
                     f,
-                    "plot: {number} at byte {at}, line {line}, column {column}: {meaning}"
+                    "{start}COLUMNS or ROWS: outside the limits: each is 1 to 16,384\n"
+                )
+            }
+            NoFilm::Rows(number) => {
+                let start = Start(*number);
+                write!(f, "{start}FIRST or COUNT: the film has no such rows\n")
+            }
+            NoFilm::File(number, mark, is_end) => {
+                let start = Start(*number);
+                let Mark { at, line, column } = *mark;
+                let meaning = meaning(*number, *is_end);
+                writeln!(
+                    f,
+                    "{start}byte {at}, line {line}, column {column}: {meaning}"
                 )
             }
             NoFilm::Unread(_) => f.write_str("plot: standard input"),
-            NoFilm::Fault => f.write_str("plot: a fault of the program, and no film"),
+            NoFilm::Fault => put_line(f, "a fault of the program, and no film"),
         }
     }
 }
@@ -86,12 +107,10 @@ fn meaning(number: u64, is_end: bool) -> &'static str {
     }
 }
 
-// A line of its own.
+// Tells why.
 pub fn tell(told: Stderr, why: NoFilm) {
     match why {
         NoFilm::Unread(e) => tell::fail(told, b"plot: standard input", e),
-        _ => {
-            let _ = told.println(why);
-        }
+        _ => tell::piecewise(told, why),
     }
 }

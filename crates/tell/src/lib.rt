@@ -2,10 +2,12 @@
 // program ends with no exit status of its own, so whoever runs it looks at what was written.
 #![tactic(auto)]
 
-ghost use Rattle.std.specs.Prelude.{◌≡◌, true, ◌≤◌, length};
+ghost use Rattle.std.specs.Prelude.{◌≡◌, true, ◌≤◌, length, IsOk};
 ghost use Rattle.tell.specs.Message.{message_of};
 
 use checks::Answer;
+use std::fmt;
+use std::fmt::Display;
 use std::io::{Cursor, Error, Print, Stderr, Stdout, Write};
 
 // Writes the file, the first bytes of those lent, as many as the answer counts. A refusal, and a
@@ -34,11 +36,35 @@ pub fn say(told: Stderr, text: &[u8]) {
     let _ = Print::write_all(&told, text);
 }
 
+// Writes each piece of a text by itself, and goes on behind one that cannot be written.
+#[derive(Drop)]
+struct Pieces<P> {
+    to: P,
+}
+
+impl<P: Print> fmt::Write for Pieces<P> {
+    fn write_str(&mut self, text: &str) -> fmt::Result
+        ensures ok { IsOk result }
+    {
+        let _ = Print::write_all(&self.to, text.as_bytes());
+        Ok(())
+    }
+}
+
+// Tells a text piece by piece, as it is made up: what cannot be told of it is told nowhere else, and
+// what comes behind that is told.
+pub fn piecewise<P: Print + Drop, D: Display + Drop>(to: P, text: D) {
+    let _ = fmt::Write::write(&mut Pieces { to }, text);
+}
+
 // As "film: refused with 6, place 0".
 fn refused(told: Stderr, program: &[u8], answer: Answer) {
     let Answer { refusal, place, .. } = answer;
     say(told, program);
-    let _ = told.println(format_args!(": refused with {refusal}, place {place}"));
+    piecewise(
+        told,
+        format_args!(": refused with {refusal}, place {place}\n"),
+    );
 }
 
 // The message of an error of the system: std ends its text by the error's number, as in

@@ -53,5 +53,10 @@ fn one(rt: HostRuntime, t: &mut Table) -> Result<(), Leave> {
 
 fn main(rt: HostRuntime) {
     let mut table = aperture::none();
-    inputs::serve(rt.stderr(), b"try_calls", || one(rt, &mut table));
+    inputs::serve(
+        rt.stderr(),
+        b"try_calls: ",
+        b"try_calls: standard input",
+        || one(rt, &mut table),
+    );
 }

@@ -71,5 +71,10 @@ fn one(rt: HostRuntime) -> Result<(), Leave> {
 }
 
 fn main(rt: HostRuntime) {
-    inputs::serve(rt.stderr(), b"try_engine", || one(rt));
+    inputs::serve(
+        rt.stderr(),
+        b"try_engine: ",
+        b"try_engine: standard input",
+        || one(rt),
+    );
 }

@@ -39,5 +39,10 @@ fn one(rt: HostRuntime) -> Result<(), Leave> {
 }
 
 fn main(rt: HostRuntime) {
-    inputs::serve(rt.stderr(), b"try_extents", || one(rt));
+    inputs::serve(
+        rt.stderr(),
+        b"try_extents: ",
+        b"try_extents: standard input",
+        || one(rt),
+    );
 }

@@ -23,5 +23,10 @@ fn one(rt: HostRuntime) -> Result<(), Leave> {
 }
 
 fn main(rt: HostRuntime) {
-    inputs::serve(rt.stderr(), b"try_pens", || one(rt));
+    inputs::serve(
+        rt.stderr(),
+        b"try_pens: ",
+        b"try_pens: standard input",
+        || one(rt),
+    );
 }

@@ -79,5 +79,10 @@ fn one(rt: HostRuntime) -> Result<(), Leave> {
 }
 
 fn main(rt: HostRuntime) {
-    inputs::serve(rt.stderr(), b"try_uncut", || one(rt));
+    inputs::serve(
+        rt.stderr(),
+        b"try_uncut: ",
+        b"try_uncut: standard input",
+        || one(rt),
+    );
 }
